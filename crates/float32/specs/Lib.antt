@@ -1,0 +1,4 @@
+-- The definitions that the contracts of `float32` cite.
+pub mod Sqrt
+pub mod Nearest
+pub mod Libm
