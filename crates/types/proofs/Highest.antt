@@ -80,12 +80,16 @@ step b s = go (s .present) (ltb rb rs) (ltb rs rb) (ltb pb ps) refl refl refl re
   where
     rb : ℕ
     rb = rank (b .action)
+
     rs : ℕ
     rs = rank (s .action)
+
     pb : ℕ
     pb = displayPriority (b .reason)
+
     ps : ℕ
     ps = displayPriority (s .reason)
+
     go : (p u v w : Bool) → s .present ≡ p → ltb rb rs ≡ u → ltb rs rb ≡ v → ltb pb ps ≡ w → Step b s (cond p (cond u (requestOf s) (cond v b (cond w (requestOf s) b))) b)
     go false u v w hp hu hv hw = (same b, (λ t. absurd (true≢false (sym t ∙ hp)), inl refl))
     go true true v w hp hu hv hw = (inl (ltb-true rb rs hu), (λ t. same (requestOf s), inr (hp, refl)))
@@ -122,6 +126,7 @@ from-where b (x ∷ l) = at (step b x .1 .1) (from-where (higherRequest b x) l)
   where
     r : Request
     r = highest (higherRequest b x) l
+
     at : (higherRequest b x ≡ b) ⊎ ((x .present ≡ true) × (requestOf x ≡ higherRequest b x)) → (r ≡ higherRequest b x) ⊎ Asked l r → (r ≡ b) ⊎ Asked (x ∷ l) r
     at u (inr a) = inr (a .0, (List·Memᴰ·tail (a .1 .0), a .1 .1))
     at (inl e) (inl f) = inl (f ∙ e)
@@ -152,16 +157,22 @@ requested-is-highest l = record { among = at (from-where nominal l) (any-present
   where
     r : Request
     r = highest nominal l
+
     at : (r ≡ nominal) ⊎ Asked l r → ((s : Slot) × (List·Memᴰ s l × (s .present ≡ true))) ⊎ ((s : Slot) → List·Memᴰ s l → s .present ≡ false) → Asked l r ⊎ (((s : Slot) → List·Memᴰ s l → s .present ≡ false) × (r ≡ nominal))
     at (inr a) u = inl a
     at (inl e) (inr n) = inr (n, e)
     at (inl e) (inl a) =
-        inl
-        (a .0,
-        (a .1 .0,
-        (a .1 .1,
-        both (requestOf (a .0)) r (none-above nominal l (a .0) (a .1 .0) (a .1 .1))
-        (subst (λ (q : Request). NotAbove q (requestOf (a .0))) (sym e) (nominal-least (requestOf (a .0)))))))
+        inl (
+          a .0,
+          (
+            a .1 .0,
+            (
+              a .1 .1,
+              both (requestOf (a .0)) r (none-above nominal l (a .0) (a .1 .0) (a .1 .1))
+                  (subst (λ (q : Request). NotAbove q (requestOf (a .0))) (sym e) (nominal-least (requestOf (a .0)))),
+            ),
+          ),
+        )
 
 -- and it is the only one
 pub highest-only : (l : List Slot) (p q : Request) → Highest l p → Highest l q → p ≡ q
@@ -169,8 +180,10 @@ highest-only l p q hp hq = at (hp .among) (hq .among)
   where
     Found : Request → Type 0
     Found r = Asked l r ⊎ (((s : Slot) → List·Memᴰ s l → s .present ≡ false) × (r ≡ nominal))
+
     under : (u v : Request) → Highest l v → Asked l u → NotAbove u v
     under u v hv a = subst (λ (x : Request). NotAbove x v) (a .1 .1 .1) (hv .above (a .0) (a .1 .0) (a .1 .1 .0))
+
     at : Found p → Found q → p ≡ q
     at (inl a) (inl b) = both p q (under p q hq a) (under q p hp b)
     at (inl a) (inr b) = absurd (true≢false (sym (a .1 .1 .0) ∙ b .0 (a .0) (a .1 .0)))

@@ -5,6 +5,7 @@ ghost use Rattle.types.specs.Numbers.{fixNumber, fixOfNumber, landedNumb
 ghost use Rattle.types.specs.ActiveSet.{noRequest, higherRequest, emptySet, setRequest, clearRequest, requestedAction};
 
 pub const MAX_FENCE_VERTS: usize = 16;
+
 pub const HALF_RANGE_MS: u32 = 0x8000_0000;
 
 pub struct Point2 {

@@ -1,0 +1,13 @@
+use mathlib.Core.Path.{refl}
+use Rattle.config.specs.Config.{badCellCount}
+use Rattle.config.proofs.bad_cell_count.Statement.{statement}
+use Rattle.config.proofs.bad_cell_count.Tie as tie
+use Rattle.config.proofs.bad_cell_count.Reads as reads
+use Rattle.config.proofs.bad_cell_count.Lts as lts
+
+returns : tie.Need-returns
+unfolding badCellCount
+returns c = refl
+
+pub bad-cell-count-spec : {M : Type 1} → statement M
+bad-cell-count-spec = tie.close (tie.spec returns)

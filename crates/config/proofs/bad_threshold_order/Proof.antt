@@ -1,0 +1,13 @@
+use mathlib.Core.Path.{refl}
+use Rattle.config.specs.Config.{badThresholdOrder}
+use Rattle.config.proofs.bad_threshold_order.Statement.{statement}
+use Rattle.config.proofs.bad_threshold_order.Tie as tie
+use Rattle.config.proofs.bad_threshold_order.Reads as reads
+use Rattle.config.proofs.bad_threshold_order.Lts as lts
+
+returns : tie.Need-returns
+unfolding badThresholdOrder
+returns c = refl
+
+pub bad-threshold-order-spec : {M : Type 1} → statement M
+bad-threshold-order-spec = tie.close (tie.spec returns)

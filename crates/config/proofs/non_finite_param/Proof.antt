@@ -1,0 +1,49 @@
+use Rattle.config.specs.Config.{nonFiniteParam}
+use borrow.Author.Needs.{needs}
+use Rattle.config.proofs.non_finite_param.Statement.{statement}
+use Rattle.config.proofs.non_finite_param.Tie as tie
+use Rattle.config.proofs.non_finite_param.Reads as reads
+use Rattle.config.proofs.non_finite_param.Lts as lts
+use Rattle.float32.proofs.is_finite.Reads as is-finite-reads
+
+is-finite-requires : tie.Need-is-finite-requires
+is-finite-requires c κs = search needs
+
+is-finite-requires-2 : tie.Need-is-finite-requires-2
+is-finite-requires-2 c κs = search needs
+
+is-finite-requires-3 : tie.Need-is-finite-requires-3
+is-finite-requires-3 c κs = search needs
+
+is-finite-requires-4 : tie.Need-is-finite-requires-4
+is-finite-requires-4 c κs = search needs
+
+is-finite-requires-5 : tie.Need-is-finite-requires-5
+is-finite-requires-5 c κs = search needs
+
+is-finite-requires-6 : tie.Need-is-finite-requires-6
+is-finite-requires-6 c κs = search needs
+
+is-finite-requires-7 : tie.Need-is-finite-requires-7
+is-finite-requires-7 c κs = search needs
+
+is-finite-requires-8 : tie.Need-is-finite-requires-8
+is-finite-requires-8 c κs = search needs
+
+returns : tie.Need-returns
+unfolding nonFiniteParam
+returns c = rw (← c .before .before .before .before .before .before .before .is-finite .ensures, ← c .before .before .before .before .before .before .is-finite2 .ensures, ← c .before .before .before .before .before .is-finite3 .ensures, ← c .before .before .before .before .is-finite4 .ensures, ← c .before .before .before .is-finite5 .ensures, ← c .before .before .is-finite6 .ensures, ← c .before .is-finite7 .ensures, ← c .is-finite8 .ensures)
+
+pub non-finite-param-spec : {M : Type 1} → statement M
+non-finite-param-spec =
+    tie.close
+    (tie.spec
+    is-finite-requires
+    is-finite-requires-2
+    is-finite-requires-3
+    is-finite-requires-4
+    is-finite-requires-5
+    is-finite-requires-6
+    is-finite-requires-7
+    is-finite-requires-8
+    returns)

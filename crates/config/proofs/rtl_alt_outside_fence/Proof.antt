@@ -1,0 +1,13 @@
+use mathlib.Core.Path.{refl}
+use Rattle.config.specs.Config.{rtlAltOutsideFence}
+use Rattle.config.proofs.rtl_alt_outside_fence.Statement.{statement}
+use Rattle.config.proofs.rtl_alt_outside_fence.Tie as tie
+use Rattle.config.proofs.rtl_alt_outside_fence.Reads as reads
+use Rattle.config.proofs.rtl_alt_outside_fence.Lts as lts
+
+returns : tie.Need-returns
+unfolding rtlAltOutsideFence
+returns c = refl
+
+pub rtl-alt-outside-fence-spec : {M : Type 1} → statement M
+rtl-alt-outside-fence-spec = tie.close (tie.spec returns)

@@ -1,0 +1,3 @@
+-- The definitions that the contracts of `config` cite.
+pub mod Config
+pub mod Default

@@ -1,0 +1,22 @@
+use Rattle.energy.specs.Energy.{marginOf}
+use borrow.Author.Needs.{needs}
+use Rattle.energy.proofs.margin_of.Statement.{statement}
+use Rattle.energy.proofs.margin_of.Tie as tie
+use Rattle.energy.proofs.margin_of.Reads as reads
+use Rattle.energy.proofs.margin_of.Lts as lts
+
+enum-known-remaining-wh : tie.Need-enum-known-remaining-wh
+enum-known-remaining-wh c = search needs
+
+enum-told : tie.Need-enum-told
+enum-told c = search needs
+
+returns : tie.Need-returns
+unfolding marginOf
+returns c = rw (c .before .remaining-wh .given .1)
+
+returns-2 : tie.Need-returns-2
+returns-2 c = search needs
+
+pub margin-of-spec : {M : Type 1} → statement M
+margin-of-spec = tie.close (tie.spec enum-known-remaining-wh enum-told returns returns-2)

@@ -1,0 +1,27 @@
+use Rattle.energy.specs.Energy.{rtlEnergy}
+use borrow.Author.Needs.{needs}
+use Rattle.energy.proofs.rtl_energy.Statement.{statement}
+use Rattle.energy.proofs.rtl_energy.Tie as tie
+use Rattle.energy.proofs.rtl_energy.Reads as reads
+use Rattle.energy.proofs.rtl_energy.Lts as lts
+use Rattle.energy.proofs.rtl_energy_at.Reads as rtl-energy-at-reads
+use Rattle.types.proofs.Vec3.alt_m.Reads as alt-m-reads
+use Rattle.types.proofs.Vec3.horizontal_dist_home.Reads as horizontal-dist-home-reads
+
+horizontal-dist-home-requires : tie.Need-horizontal-dist-home-requires
+horizontal-dist-home-requires c κs = search needs
+
+alt-m-requires : tie.Need-alt-m-requires
+alt-m-requires c κs = search needs
+
+rtl-energy-at-requires : tie.Need-rtl-energy-at-requires
+rtl-energy-at-requires c κs = search needs
+
+returns : tie.Need-returns
+unfolding rtlEnergy
+returns c = rw (← c .before .before .horizontal-dist-home .ensures, ← c .before .alt-m .ensures, ← c .rtl-energy-at .ensures)
+
+pub rtl-energy-spec : {M : Type 1} → statement M
+rtl-energy-spec =
+    tie.close
+    (tie.spec horizontal-dist-home-requires alt-m-requires rtl-energy-at-requires returns)

@@ -1,0 +1,31 @@
+use Rattle.energy.specs.Energy.{rtlEnergyAt}
+use borrow.Author.Needs.{needs}
+use Rattle.energy.proofs.rtl_energy_at.Statement.{statement}
+use Rattle.energy.proofs.rtl_energy_at.Tie as tie
+use Rattle.energy.proofs.rtl_energy_at.Reads as reads
+use Rattle.energy.proofs.rtl_energy_at.Lts as lts
+use Rattle.energy.proofs.insufficient_of.Reads as insufficient-of-reads
+use Rattle.energy.proofs.land_wh.Reads as land-wh-reads
+use Rattle.energy.proofs.margin_of.Reads as margin-of-reads
+use Rattle.energy.proofs.rtl_wh.Reads as rtl-wh-reads
+
+rtl-wh-requires : tie.Need-rtl-wh-requires
+rtl-wh-requires c κs = search needs
+
+land-wh-requires : tie.Need-land-wh-requires
+land-wh-requires c κs = search needs
+
+margin-of-requires : tie.Need-margin-of-requires
+margin-of-requires c κs = search needs
+
+insufficient-of-requires : tie.Need-insufficient-of-requires
+insufficient-of-requires c κs = search needs
+
+returns : tie.Need-returns
+unfolding rtlEnergyAt
+returns c = rw (← c .before .before .before .rtl-wh .ensures, ← c .before .before .land-wh .ensures, ← c .before .margin-of .ensures, ← c .insufficient-of .ensures)
+
+pub rtl-energy-at-spec : {M : Type 1} → statement M
+rtl-energy-at-spec =
+    tie.close
+    (tie.spec rtl-wh-requires land-wh-requires margin-of-requires insufficient-of-requires returns)

@@ -1,0 +1,2 @@
+-- The definitions that the contracts of `energy` cite.
+pub mod Energy

@@ -1,0 +1,8 @@
+-- The laws that the proofs of `geometry` and of its callers cite.
+pub mod Laws
+pub mod Hold
+pub mod Lengths
+pub mod Callers
+pub mod Inside
+pub mod Constants
+pub mod Instances

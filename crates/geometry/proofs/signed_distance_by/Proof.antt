@@ -1,0 +1,119 @@
+-- `signed_distance_by` meets its contract. Assumes nothing.
+use mathlib.Core.Path.{_≡_, sym}
+use mathlib.Core.Bool.{false}
+use Prim.Native.Nat.{_≤_, _-_}
+use native.Mathlib.Omega.{arith}
+use lib.Ieee.{inf, nan}
+use lib.ListN.{length, take, drop, length-map}
+use borrow.Author.Needs.{needs}
+use Rattle.geometry.specs.Ring.{pairs, sides}
+use Rattle.geometry.specs.Distance.{edgeSignedDistanceBy, least}
+use Rattle.geometry.proofs.Laws.{side-beside, side-beside-end}
+use Rattle.geometry.proofs.Hold.{nowhere, take-capped, length-capped, distance-few, distance-many}
+use Rattle.geometry.proofs.signed_distance_by.Statement.{statement}
+use Rattle.geometry.proofs.signed_distance_by.Tie as tie
+
+abbrev Inv-loop : tie.InvT-loop
+Inv-loop p poly lengths n min-sd₀ i₀ min-sd i = (i ≤ n) × (least (edgeSignedDistanceBy p) min-sd (drop i (pairs (sides (take n (poly .verts))) (lengths .m))) ≡ least (edgeSignedDistanceBy p) (inf false) (pairs (sides (take n (poly .verts))) (lengths .m)))
+
+abbrev μ-loop : tie.MeasureT-loop
+μ-loop p poly lengths n min-sd₀ i₀ min-sd i = n - i
+
+long : (c : tie.Start Inv-loop μ-loop) → length (c .args .t1 .verts) ≡ 16
+long c = simp length-map at (c .good .0 .1 .1 .0 .1 .0 .1)
+
+long-m : (c : tie.Start Inv-loop μ-loop) → length (c .args .t2 .m) ≡ 16
+long-m c = simp length-map at (c .good .1 .0 .1 .1 .0 .1 .0 .1)
+
+capped-requires : tie.Need-capped-requires Inv-loop μ-loop
+capped-requires c κs = search needs
+
+returns : tie.Need-returns Inv-loop μ-loop
+returns c =
+    let s = c .before .before in
+    let v = s .args .t1 .verts in
+    sym (distance-few (take (s .args .t1 .len) v) (s .args .t2 .m) (s .args .p) (omega (arith, length-capped v (s .args .t1 .len) (long s))))
+
+infinity-requires : tie.Need-infinity-requires Inv-loop μ-loop
+infinity-requires c κs = search needs
+
+loop-holds : tie.Need-loop-holds Inv-loop μ-loop
+loop-holds c = (omega arith, rw (c .infinity .ensures))
+
+next-requires : tie.Need-next-requires Inv-loop μ-loop
+next-requires c κs = search needs
+
+mul-a : tie.Need-mul-a Inv-loop μ-loop
+mul-a c = omega arith
+
+element-copy-out-a : tie.Need-element-copy-out-a Inv-loop μ-loop
+element-copy-out-a c = omega arith
+
+mul-b : tie.Need-mul-b Inv-loop μ-loop
+mul-b c = omega arith
+
+element-copy-out-b : tie.Need-element-copy-out-b Inv-loop μ-loop
+element-copy-out-b c = omega arith
+
+mul-len : tie.Need-mul-len Inv-loop μ-loop
+mul-len c = omega arith
+
+element-copy-out-len : tie.Need-element-copy-out-len Inv-loop μ-loop
+element-copy-out-len c = omega arith
+
+edge-signed-distance-requires : tie.Need-edge-signed-distance-requires Inv-loop μ-loop
+edge-signed-distance-requires c κs = search needs
+
+nearer-requires : tie.Need-nearer-requires Inv-loop μ-loop
+nearer-requires c κs = search needs
+
+add-i : tie.Need-add-i Inv-loop μ-loop
+add-i c = omega arith
+
+loop-less : tie.Need-loop-less Inv-loop μ-loop
+loop-less c = omega arith
+
+loop-again : tie.Need-loop-again Inv-loop μ-loop
+loop-again c =
+    let s = c .before .before .before .before .before .before .before .before .before .before .before in
+    let l = c .before .before .before .before .before .before .before .loop in
+    let v = s .args .t1 .verts in
+    let n = c .before .before .before .before .before .before .before .before .before .before .capped .result in
+    let r : n ≤ length v = omega (arith, long s) in
+    let q : n ≤ length (s .args .t2 .m) = omega (arith, long-m s) in
+    (omega arith, rw (c .nearer .ensures, c .before .edge-signed-distance .ensures, c .before .before .before .before .before .next .ensures .0) (rw (side-beside v n r (s .args .t2 .m) (l .i) nowhere nan q (omega arith)) at (l .inv .1)))
+
+returns-2 : tie.Need-returns-2 Inv-loop μ-loop
+returns-2 c =
+    let s = c .before .before .before .before .before in
+    let v = s .args .t1 .verts in
+    let n = c .before .before .before .before .capped .result in
+    let r : n ≤ length v = omega (arith, long s) in
+    let q : n ≤ length (s .args .t2 .m) = omega (arith, long-m s) in
+    let e = length-capped v (s .args .t1 .len) (long s) in
+    rw (distance-many (take (s .args .t1 .len) v) (s .args .t2 .m) (s .args .p) (omega arith), take-capped v (s .args .t1 .len) (long s), ← c .before .before .before .before .capped .ensures)
+    (rw (side-beside-end v n r (s .args .t2 .m) (c .before .loop .i) q (omega arith)) at (c .before .loop .inv .1))
+
+pub signed-distance-by-spec : {M : Type 1} → statement M
+signed-distance-by-spec =
+    tie.close
+    (tie.spec
+    Inv-loop
+    μ-loop
+    capped-requires
+    returns
+    infinity-requires
+    loop-holds
+    next-requires
+    mul-a
+    element-copy-out-a
+    mul-b
+    element-copy-out-b
+    mul-len
+    element-copy-out-len
+    edge-signed-distance-requires
+    nearer-requires
+    add-i
+    loop-less
+    loop-again
+    returns-2)
