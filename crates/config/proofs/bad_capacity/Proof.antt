@@ -1,10 +1,8 @@
+-- `config::bad_capacity` meets its contract. Assumes nothing.
 use Rattle.config.specs.Config.{badCapacity}
 use borrow.Author.Needs.{needs}
 use Rattle.config.proofs.bad_capacity.Statement.{statement}
 use Rattle.config.proofs.bad_capacity.Tie as tie
-use Rattle.config.proofs.bad_capacity.Reads as reads
-use Rattle.config.proofs.bad_capacity.Lts as lts
-use Rattle.float32.proofs.is_finite.Reads as is-finite-reads
 
 is-finite-requires : tie.Need-is-finite-requires
 is-finite-requires c κs = search needs

@@ -1,9 +1,8 @@
+-- `config::bad_cell_count` meets its contract. Assumes nothing.
 use mathlib.Core.Path.{refl}
 use Rattle.config.specs.Config.{badCellCount}
 use Rattle.config.proofs.bad_cell_count.Statement.{statement}
 use Rattle.config.proofs.bad_cell_count.Tie as tie
-use Rattle.config.proofs.bad_cell_count.Reads as reads
-use Rattle.config.proofs.bad_cell_count.Lts as lts
 
 returns : tie.Need-returns
 unfolding badCellCount

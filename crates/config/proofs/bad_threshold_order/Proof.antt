@@ -1,9 +1,8 @@
+-- `config::bad_threshold_order` meets its contract. Assumes nothing.
 use mathlib.Core.Path.{refl}
 use Rattle.config.specs.Config.{badThresholdOrder}
 use Rattle.config.proofs.bad_threshold_order.Statement.{statement}
 use Rattle.config.proofs.bad_threshold_order.Tie as tie
-use Rattle.config.proofs.bad_threshold_order.Reads as reads
-use Rattle.config.proofs.bad_threshold_order.Lts as lts
 
 returns : tie.Need-returns
 unfolding badThresholdOrder

@@ -1,17 +1,8 @@
+-- `config::check_config` meets its contract. Assumes nothing.
 use Rattle.config.specs.Config.{checkConfig}
 use borrow.Author.Needs.{needs}
 use Rattle.config.proofs.check_config.Statement.{statement}
 use Rattle.config.proofs.check_config.Tie as tie
-use Rattle.config.proofs.check_config.Reads as reads
-use Rattle.config.proofs.check_config.Lts as lts
-use Rattle.config.proofs.bad_capacity.Reads as bad-capacity-reads
-use Rattle.config.proofs.bad_cell_count.Reads as bad-cell-count-reads
-use Rattle.config.proofs.bad_threshold_order.Reads as bad-threshold-order-reads
-use Rattle.config.proofs.duration_out_of_range.Reads as duration-out-of-range-reads
-use Rattle.config.proofs.negative_power.Reads as negative-power-reads
-use Rattle.config.proofs.non_finite_param.Reads as non-finite-param-reads
-use Rattle.config.proofs.non_positive_speed.Reads as non-positive-speed-reads
-use Rattle.config.proofs.rtl_alt_outside_fence.Reads as rtl-alt-outside-fence-reads
 
 bad-cell-count-requires : tie.Need-bad-cell-count-requires
 bad-cell-count-requires c κs = search needs

@@ -1,13 +1,9 @@
+-- `config::default_fence` meets its contract. Assumes nothing.
 use lib.Ieee.{ofBits, round, neg}
 use Rattle.config.specs.Default.{defaultFence}
 use borrow.Author.Needs.{needs}
 use Rattle.config.proofs.default_fence.Statement.{statement}
 use Rattle.config.proofs.default_fence.Tie as tie
-use Rattle.config.proofs.default_fence.Reads as reads
-use Rattle.config.proofs.default_fence.Lts as lts
-use Rattle.geometry.proofs.ConvexPolygon.new.Reads as ConvexPolygon-new-reads
-use Rattle.geometry.proofs.FenceResult.and.Reads as and-reads
-use Rattle.geometry.proofs.Geofence.new.Reads as Geofence-new-reads
 
 array-set-from-pts : tie.Need-array-set-from-pts
 array-set-from-pts c = search needs

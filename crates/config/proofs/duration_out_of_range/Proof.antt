@@ -1,10 +1,8 @@
+-- `config::duration_out_of_range` meets its contract. Assumes nothing.
 use Rattle.config.specs.Config.{durationOutOfRange}
 use borrow.Author.Needs.{needs}
 use Rattle.config.proofs.duration_out_of_range.Statement.{statement}
 use Rattle.config.proofs.duration_out_of_range.Tie as tie
-use Rattle.config.proofs.duration_out_of_range.Reads as reads
-use Rattle.config.proofs.duration_out_of_range.Lts as lts
-use Rattle.config.proofs.outside_duration.Reads as outside-duration-reads
 
 outside-duration-requires : tie.Need-outside-duration-requires
 outside-duration-requires c κs = search needs

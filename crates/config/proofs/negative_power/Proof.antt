@@ -1,9 +1,8 @@
+-- `config::negative_power` meets its contract. Assumes nothing.
 use mathlib.Core.Path.{refl}
 use Rattle.config.specs.Config.{negativePower}
 use Rattle.config.proofs.negative_power.Statement.{statement}
 use Rattle.config.proofs.negative_power.Tie as tie
-use Rattle.config.proofs.negative_power.Reads as reads
-use Rattle.config.proofs.negative_power.Lts as lts
 
 returns : tie.Need-returns
 unfolding negativePower

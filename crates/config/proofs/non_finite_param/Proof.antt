@@ -1,10 +1,8 @@
+-- `config::non_finite_param` meets its contract. Assumes nothing.
 use Rattle.config.specs.Config.{nonFiniteParam}
 use borrow.Author.Needs.{needs}
 use Rattle.config.proofs.non_finite_param.Statement.{statement}
 use Rattle.config.proofs.non_finite_param.Tie as tie
-use Rattle.config.proofs.non_finite_param.Reads as reads
-use Rattle.config.proofs.non_finite_param.Lts as lts
-use Rattle.float32.proofs.is_finite.Reads as is-finite-reads
 
 is-finite-requires : tie.Need-is-finite-requires
 is-finite-requires c κs = search needs

@@ -1,9 +1,8 @@
+-- `config::non_positive_speed` meets its contract. Assumes nothing.
 use mathlib.Core.Path.{refl}
 use Rattle.config.specs.Config.{nonPositiveSpeed}
 use Rattle.config.proofs.non_positive_speed.Statement.{statement}
 use Rattle.config.proofs.non_positive_speed.Tie as tie
-use Rattle.config.proofs.non_positive_speed.Reads as reads
-use Rattle.config.proofs.non_positive_speed.Lts as lts
 
 returns : tie.Need-returns
 unfolding nonPositiveSpeed

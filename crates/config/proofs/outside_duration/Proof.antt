@@ -1,9 +1,8 @@
+-- `config::outside_duration` meets its contract. Assumes nothing.
 use mathlib.Core.Path.{refl}
 use Rattle.config.specs.Config.{outsideDuration}
 use Rattle.config.proofs.outside_duration.Statement.{statement}
 use Rattle.config.proofs.outside_duration.Tie as tie
-use Rattle.config.proofs.outside_duration.Reads as reads
-use Rattle.config.proofs.outside_duration.Lts as lts
 
 returns : tie.Need-returns
 unfolding outsideDuration

@@ -1,9 +1,8 @@
+-- `config::rtl_alt_outside_fence` meets its contract. Assumes nothing.
 use mathlib.Core.Path.{refl}
 use Rattle.config.specs.Config.{rtlAltOutsideFence}
 use Rattle.config.proofs.rtl_alt_outside_fence.Statement.{statement}
 use Rattle.config.proofs.rtl_alt_outside_fence.Tie as tie
-use Rattle.config.proofs.rtl_alt_outside_fence.Reads as reads
-use Rattle.config.proofs.rtl_alt_outside_fence.Lts as lts
 
 returns : tie.Need-returns
 unfolding rtlAltOutsideFence

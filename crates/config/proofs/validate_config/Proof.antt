@@ -1,11 +1,8 @@
+-- `config::validate_config` meets its contract. Assumes nothing.
 use Rattle.config.specs.Config.{validateConfig}
 use borrow.Author.Needs.{needs}
 use Rattle.config.proofs.validate_config.Statement.{statement}
 use Rattle.config.proofs.validate_config.Tie as tie
-use Rattle.config.proofs.validate_config.Reads as reads
-use Rattle.config.proofs.validate_config.Lts as lts
-use Rattle.config.proofs.check_config.Reads as check-config-reads
-use Rattle.geometry.proofs.ConvexPolygon.contains.Reads as contains-reads
 
 contains-requires : tie.Need-contains-requires
 contains-requires c κs = search needs

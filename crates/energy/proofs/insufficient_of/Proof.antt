@@ -1,9 +1,7 @@
-use Rattle.energy.specs.Energy.{insufficientOf}
+-- `energy::insufficient_of` meets its contract. Assumes nothing.
 use borrow.Author.Needs.{needs}
 use Rattle.energy.proofs.insufficient_of.Statement.{statement}
 use Rattle.energy.proofs.insufficient_of.Tie as tie
-use Rattle.energy.proofs.insufficient_of.Reads as reads
-use Rattle.energy.proofs.insufficient_of.Lts as lts
 
 enum-known-remaining-wh : tie.Need-enum-known-remaining-wh
 enum-known-remaining-wh c = search needs
@@ -12,7 +10,6 @@ enum-told : tie.Need-enum-told
 enum-told c = search needs
 
 returns : tie.Need-returns
-unfolding insufficientOf
 returns c = rw (c .before .remaining-wh .given .1)
 
 returns-2 : tie.Need-returns-2

@@ -1,9 +1,8 @@
+-- `energy::land_wh` meets its contract. Assumes nothing.
 use mathlib.Core.Path.{refl}
 use Rattle.energy.specs.Energy.{landWh}
 use Rattle.energy.proofs.land_wh.Statement.{statement}
 use Rattle.energy.proofs.land_wh.Tie as tie
-use Rattle.energy.proofs.land_wh.Reads as reads
-use Rattle.energy.proofs.land_wh.Lts as lts
 
 returns : tie.Need-returns
 unfolding landWh

@@ -1,12 +1,8 @@
+-- `energy::rtl_energy` meets its contract. Assumes nothing.
 use Rattle.energy.specs.Energy.{rtlEnergy}
 use borrow.Author.Needs.{needs}
 use Rattle.energy.proofs.rtl_energy.Statement.{statement}
 use Rattle.energy.proofs.rtl_energy.Tie as tie
-use Rattle.energy.proofs.rtl_energy.Reads as reads
-use Rattle.energy.proofs.rtl_energy.Lts as lts
-use Rattle.energy.proofs.rtl_energy_at.Reads as rtl-energy-at-reads
-use Rattle.types.proofs.Vec3.alt_m.Reads as alt-m-reads
-use Rattle.types.proofs.Vec3.horizontal_dist_home.Reads as horizontal-dist-home-reads
 
 horizontal-dist-home-requires : tie.Need-horizontal-dist-home-requires
 horizontal-dist-home-requires c κs = search needs

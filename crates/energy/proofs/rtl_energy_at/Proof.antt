@@ -1,13 +1,8 @@
+-- `energy::rtl_energy_at` meets its contract. Assumes nothing.
 use Rattle.energy.specs.Energy.{rtlEnergyAt}
 use borrow.Author.Needs.{needs}
 use Rattle.energy.proofs.rtl_energy_at.Statement.{statement}
 use Rattle.energy.proofs.rtl_energy_at.Tie as tie
-use Rattle.energy.proofs.rtl_energy_at.Reads as reads
-use Rattle.energy.proofs.rtl_energy_at.Lts as lts
-use Rattle.energy.proofs.insufficient_of.Reads as insufficient-of-reads
-use Rattle.energy.proofs.land_wh.Reads as land-wh-reads
-use Rattle.energy.proofs.margin_of.Reads as margin-of-reads
-use Rattle.energy.proofs.rtl_wh.Reads as rtl-wh-reads
 
 rtl-wh-requires : tie.Need-rtl-wh-requires
 rtl-wh-requires c κs = search needs

@@ -1,10 +1,8 @@
+-- `energy::rtl_wh` meets its contract. Assumes nothing.
 use Rattle.energy.specs.Energy.{rtlWh}
 use borrow.Author.Needs.{needs}
 use Rattle.energy.proofs.rtl_wh.Statement.{statement}
 use Rattle.energy.proofs.rtl_wh.Tie as tie
-use Rattle.energy.proofs.rtl_wh.Reads as reads
-use Rattle.energy.proofs.rtl_wh.Lts as lts
-use Rattle.float32.proofs.fmaxf.Reads as fmaxf-reads
 
 fmaxf-requires : tie.Need-fmaxf-requires
 fmaxf-requires c κs = search needs

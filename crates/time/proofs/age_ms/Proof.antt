@@ -1,3 +1,4 @@
+-- `time::age_ms` meets its contract. Assumes nothing.
 use mathlib.Core.Path.{_≡_}
 use native.Mathlib.Omega.{arith}
 use borrow.Author.Tests.{lt-ltb, le-ltb}
@@ -6,9 +7,6 @@ use Rattle.time.proofs.Modulo.{wraps}
 use borrow.Author.Needs.{needs}
 use Rattle.time.proofs.age_ms.Statement.{statement}
 use Rattle.time.proofs.age_ms.Tie as tie
-use Rattle.time.proofs.age_ms.Reads as reads
-use Rattle.time.proofs.age_ms.Lts as lts
-use Rattle.std.proofs.num.wrapping_sub_u32.Reads as wrapping-sub-u32-reads
 
 wrapping-sub-u32-requires : tie.Need-wrapping-sub-u32-requires
 wrapping-sub-u32-requires c κs = search needs

@@ -1,10 +1,8 @@
+-- `time::hold_met` meets its contract. Assumes nothing.
 use Rattle.time.specs.Time.{holdMet}
 use borrow.Author.Needs.{needs}
 use Rattle.time.proofs.hold_met.Statement.{statement}
 use Rattle.time.proofs.hold_met.Tie as tie
-use Rattle.time.proofs.hold_met.Reads as reads
-use Rattle.time.proofs.hold_met.Lts as lts
-use Rattle.time.proofs.age_ms.Reads as age-ms-reads
 
 age-ms-requires : tie.Need-age-ms-requires
 age-ms-requires c κs = search needs

@@ -1,10 +1,8 @@
+-- `time::is_fresh` meets its contract. Assumes nothing.
 use Rattle.time.specs.Time.{fresh}
 use borrow.Author.Needs.{needs}
 use Rattle.time.proofs.is_fresh.Statement.{statement}
 use Rattle.time.proofs.is_fresh.Tie as tie
-use Rattle.time.proofs.is_fresh.Reads as reads
-use Rattle.time.proofs.is_fresh.Lts as lts
-use Rattle.time.proofs.age_ms.Reads as age-ms-reads
 
 age-ms-requires : tie.Need-age-ms-requires
 age-ms-requires c κs = search needs

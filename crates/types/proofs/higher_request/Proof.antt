@@ -1,12 +1,9 @@
+-- `types::higher_request` meets its contract. Assumes nothing.
 use borrow.Author.Tests.{lt-ltb, le-ltb}
 use Rattle.types.specs.ActiveSet.{higherRequest}
 use borrow.Author.Needs.{needs}
 use Rattle.types.proofs.higher_request.Statement.{statement}
 use Rattle.types.proofs.higher_request.Tie as tie
-use Rattle.types.proofs.higher_request.Reads as reads
-use Rattle.types.proofs.higher_request.Lts as lts
-use Rattle.types.proofs.Action.rank.Reads as rank-reads
-use Rattle.types.proofs.Reason.display_priority.Reads as display-priority-reads
 
 rank-requires : tie.Need-rank-requires
 rank-requires c κs = search needs

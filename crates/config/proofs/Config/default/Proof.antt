@@ -1,10 +1,9 @@
+-- `config::Config::default` meets its contract. Assumes nothing.
 use mathlib.Core.Path.{refl}
 use lib.Ieee.{ofBits, round}
 use Rattle.config.specs.Default.{defaultConfig}
 use Rattle.config.proofs.Config.default.Statement.{statement}
 use Rattle.config.proofs.Config.default.Tie as tie
-use Rattle.config.proofs.Config.default.Reads as reads
-use Rattle.config.proofs.Config.default.Lts as lts
 
 returns : tie.Need-returns
 unfolding defaultConfig ofBits round

@@ -1,3 +1,4 @@
+-- `types::Action::from_rank` meets its contract. Assumes nothing.
 use mathlib.Core.Path.{sym, ap}
 use mathlib.Core.List.{map}
 use lib.ListN.{List·getD-eq-default}
@@ -6,8 +7,6 @@ use Rattle.types.specs.declared.OptionAction.{OptionAction}
 use Rattle.types.specs.Numbers.{actionOfRank, actions}
 use Rattle.types.proofs.Action.from_rank.Statement.{statement}
 use Rattle.types.proofs.Action.from_rank.Tie as tie
-use Rattle.types.proofs.Action.from_rank.Reads as reads
-use Rattle.types.proofs.Action.from_rank.Lts as lts
 
 returns : tie.Need-returns
 returns c = sym (ap actionOfRank (c .match .keys1))

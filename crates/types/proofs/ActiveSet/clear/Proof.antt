@@ -1,13 +1,10 @@
+-- `types::ActiveSet::clear` meets its contract. Assumes nothing.
 use native.Mathlib.Omega.{arith}
 use Rattle.types.specs.ActiveSet.{clearRequest}
 use Rattle.types.proofs.Slots.{index-lt}
 use borrow.Author.Needs.{needs}
 use Rattle.types.proofs.ActiveSet.clear.Statement.{statement}
 use Rattle.types.proofs.ActiveSet.clear.Tie as tie
-use Rattle.types.proofs.ActiveSet.clear.Reads as reads
-use Rattle.types.proofs.ActiveSet.clear.Lts as lts
-use Rattle.types.proofs.Reason.index.Reads as index-reads
-use Rattle.types.proofs.no_request.Reads as no-request-reads
 
 index-requires : tie.Need-index-requires
 index-requires c κs = search needs

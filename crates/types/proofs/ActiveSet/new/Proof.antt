@@ -1,9 +1,7 @@
+-- `types::ActiveSet::new` meets its contract. Assumes nothing.
 use borrow.Author.Needs.{needs}
 use Rattle.types.proofs.ActiveSet.new.Statement.{statement}
 use Rattle.types.proofs.ActiveSet.new.Tie as tie
-use Rattle.types.proofs.ActiveSet.new.Reads as reads
-use Rattle.types.proofs.ActiveSet.new.Lts as lts
-use Rattle.types.proofs.no_request.Reads as no-request-reads
 
 no-request-requires : tie.Need-no-request-requires
 no-request-requires c κs = search needs

@@ -1,6 +1,6 @@
 -- `types::ActiveSet::requested_action` meets its contract: what is highest so far, with the slots that are left, gives the answer. Assumes nothing.
 use borrow.Author.Needs.{needs}
-use mathlib.Core.Path.{_≡_, _∙_, sym}
+use mathlib.Core.Path.{_≡_, _∙_}
 use Prim.Native.Nat.{_≤_, _<_, _-_}
 use lib.ListN.{drop, length, drop-of-length-le, length-map}
 use Rattle.types.proofs.Slots.{turn}
@@ -8,9 +8,6 @@ use native.Mathlib.Omega.{arith}
 use Rattle.types.specs.ActiveSet.{requestedAction, highest}
 use Rattle.types.proofs.ActiveSet.requested_action.Statement.{statement}
 use Rattle.types.proofs.ActiveSet.requested_action.Tie as tie
-use Rattle.types.proofs.ActiveSet.requested_action.Reads as reads
-use Rattle.types.proofs.ActiveSet.requested_action.Lts as lts
-use Rattle.types.proofs.higher_request.Reads as higher-request-reads
 
 abbrev Inv-loop : tie.InvT-loop
 Inv-loop self best₀ i₀ best i = (i ≤ 19) × (highest best (drop i (self .reqs)) ≡ requestedAction (self .reqs))

@@ -1,12 +1,10 @@
+-- `types::ActiveSet::set` meets its contract. Assumes nothing.
 use native.Mathlib.Omega.{arith}
 use Rattle.types.specs.ActiveSet.{setRequest}
 use Rattle.types.proofs.Slots.{index-lt}
 use borrow.Author.Needs.{needs}
 use Rattle.types.proofs.ActiveSet.set.Statement.{statement}
 use Rattle.types.proofs.ActiveSet.set.Tie as tie
-use Rattle.types.proofs.ActiveSet.set.Reads as reads
-use Rattle.types.proofs.ActiveSet.set.Lts as lts
-use Rattle.types.proofs.Reason.index.Reads as index-reads
 
 index-requires : tie.Need-index-requires
 index-requires c κs = search needs

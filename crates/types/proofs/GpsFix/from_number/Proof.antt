@@ -1,3 +1,4 @@
+-- `types::GpsFix::from_number` meets its contract. Assumes nothing.
 use mathlib.Core.Path.{sym, ap}
 use mathlib.Core.List.{map}
 use lib.ListN.{List·getD-eq-default}
@@ -6,8 +7,6 @@ use Rattle.types.specs.declared.OptionGpsFix.{OptionGpsFix}
 use Rattle.types.specs.Numbers.{fixOfNumber, fixes}
 use Rattle.types.proofs.GpsFix.from_number.Statement.{statement}
 use Rattle.types.proofs.GpsFix.from_number.Tie as tie
-use Rattle.types.proofs.GpsFix.from_number.Reads as reads
-use Rattle.types.proofs.GpsFix.from_number.Lts as lts
 
 returns : tie.Need-returns
 returns c = sym (ap fixOfNumber (c .match .keys1))

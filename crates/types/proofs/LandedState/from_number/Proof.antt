@@ -1,3 +1,4 @@
+-- `types::LandedState::from_number` meets its contract. Assumes nothing.
 use mathlib.Core.Path.{sym, ap}
 use mathlib.Core.List.{map}
 use lib.ListN.{List·getD-eq-default}
@@ -6,8 +7,6 @@ use Rattle.types.specs.declared.OptionLandedState.{OptionLandedState}
 use Rattle.types.specs.Numbers.{landedOfNumber, landedStates}
 use Rattle.types.proofs.LandedState.from_number.Statement.{statement}
 use Rattle.types.proofs.LandedState.from_number.Tie as tie
-use Rattle.types.proofs.LandedState.from_number.Reads as reads
-use Rattle.types.proofs.LandedState.from_number.Lts as lts
 
 returns : tie.Need-returns
 returns c = sym (ap landedOfNumber (c .match .keys1))

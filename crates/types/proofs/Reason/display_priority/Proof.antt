@@ -1,8 +1,7 @@
+-- `types::Reason::display_priority` meets its contract. Assumes nothing.
 use borrow.Author.Needs.{needs}
 use Rattle.types.proofs.Reason.display_priority.Statement.{statement}
 use Rattle.types.proofs.Reason.display_priority.Tie as tie
-use Rattle.types.proofs.Reason.display_priority.Reads as reads
-use Rattle.types.proofs.Reason.display_priority.Lts as lts
 
 enum-told : tie.Need-enum-told
 enum-told c = search needs

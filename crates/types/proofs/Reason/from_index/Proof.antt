@@ -1,3 +1,4 @@
+-- `types::Reason::from_index` meets its contract. Assumes nothing.
 use mathlib.Core.Path.{sym, ap}
 use mathlib.Core.List.{map}
 use lib.ListN.{List·getD-eq-default}
@@ -6,8 +7,6 @@ use Rattle.types.specs.declared.OptionReason.{OptionReason}
 use Rattle.types.specs.Numbers.{fromIndex, reasons}
 use Rattle.types.proofs.Reason.from_index.Statement.{statement}
 use Rattle.types.proofs.Reason.from_index.Tie as tie
-use Rattle.types.proofs.Reason.from_index.Reads as reads
-use Rattle.types.proofs.Reason.from_index.Lts as lts
 
 returns : tie.Need-returns
 returns c = sym (ap fromIndex (c .match .keys1))

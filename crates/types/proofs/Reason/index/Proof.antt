@@ -1,8 +1,7 @@
+-- `types::Reason::index` meets its contract. Assumes nothing.
 use borrow.Author.Needs.{needs}
 use Rattle.types.proofs.Reason.index.Statement.{statement}
 use Rattle.types.proofs.Reason.index.Tie as tie
-use Rattle.types.proofs.Reason.index.Reads as reads
-use Rattle.types.proofs.Reason.index.Lts as lts
 
 enum-told : tie.Need-enum-told
 enum-told c = search needs

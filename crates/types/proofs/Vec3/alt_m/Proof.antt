@@ -1,9 +1,8 @@
+-- `types::Vec3::alt_m` meets its contract. Assumes nothing.
 use mathlib.Core.Path.{refl}
 use Rattle.types.specs.Vec3.{altM}
 use Rattle.types.proofs.Vec3.alt_m.Statement.{statement}
 use Rattle.types.proofs.Vec3.alt_m.Tie as tie
-use Rattle.types.proofs.Vec3.alt_m.Reads as reads
-use Rattle.types.proofs.Vec3.alt_m.Lts as lts
 
 returns : tie.Need-returns
 unfolding altM

@@ -1,10 +1,8 @@
+-- `types::Vec3::horizontal_dist_home` meets its contract. Assumes nothing.
 use Rattle.types.specs.Vec3.{horizontalDistHome}
 use borrow.Author.Needs.{needs}
 use Rattle.types.proofs.Vec3.horizontal_dist_home.Statement.{statement}
 use Rattle.types.proofs.Vec3.horizontal_dist_home.Tie as tie
-use Rattle.types.proofs.Vec3.horizontal_dist_home.Reads as reads
-use Rattle.types.proofs.Vec3.horizontal_dist_home.Lts as lts
-use Rattle.float32.proofs.sqrtf.Reads as sqrtf-reads
 
 sqrtf-requires : tie.Need-sqrtf-requires
 sqrtf-requires c κs = search needs

@@ -1,0 +1,2 @@
+-- The definitions that the contracts of `arbiter` cite.
+pub mod Arbiter

@@ -1,0 +1,2 @@
+-- The definitions that the contracts of `disarm` cite.
+pub mod Disarm

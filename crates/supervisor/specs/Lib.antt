@@ -1,0 +1,3 @@
+-- The definitions that the contracts of `supervisor` cite.
+pub mod Clock
+pub mod Step

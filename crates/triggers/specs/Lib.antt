@@ -1,0 +1,4 @@
+-- The definitions that the contracts of `triggers` cite.
+pub mod Timer
+pub mod Families
+pub mod Update

@@ -1,0 +1,188 @@
+-- Document 01, 'triggers': a whole step of the triggers. Assumes nothing.
+use Prim.Native.Nat.{ℕ}
+use mathlib.Core.Bool.{Bool, true, false, cond}
+use lib.Ieee.{Float}
+use Rattle.types.specs.declared.Action.{Action}
+use Rattle.types.specs.declared.OptionAction.{OptionAction}
+use Rattle.types.specs.declared.Reason.{Reason}
+use Rattle.types.specs.declared.OptionF32.{OptionF32}
+use Rattle.types.specs.declared.ActiveSet.{ActiveSet}
+use Rattle.types.specs.declared.Telemetry.{Telemetry}
+use Rattle.types.specs.ActiveSet.{emptySet, setRequest}
+use Rattle.config.specs.declared.Config.{Config}
+use Rattle.validate.specs.Fresh.{freshTrue, freshLanded, freshBatteryPercent, freshVoltage}
+use Rattle.triggers.specs.declared.OptionPlace.{OptionPlace}
+use Rattle.triggers.specs.declared.FenceHeld.{FenceHeld}
+use Rattle.triggers.specs.declared.Families.{Families}
+use Rattle.triggers.specs.declared.TriggerState.{TriggerState}
+use Rattle.triggers.specs.declared.Updated.{Updated}
+use Rattle.triggers.specs.Timer.{cleared}
+use Rattle.triggers.specs.Families.{invalidInput, gcsLink, rcLink, gps, ekf, inAir, fence, staleBattery, battery, energy}
+
+-- nothing latched, no timer started
+unfoldable pub freshTriggers : TriggerState
+freshTriggers =
+    record {
+      «battery_critical_latched» = false;
+      «energy_infeasible_latched» = false;
+      «gcs_clear_timer» = cleared;
+      «rc_clear_timer» = cleared;
+      «gps_deg_set» = cleared;
+      «gps_deg_clear» = cleared;
+      «gps_lost_set» = cleared;
+      «gps_lost_clear» = cleared;
+      «ekf_set» = cleared;
+      «ekf_clear» = cleared;
+      «fence_breach_set» = cleared;
+      «fence_breach_clear» = cleared;
+      «alt_max_set» = cleared;
+      «alt_max_clear» = cleared;
+      «alt_min_set» = cleared;
+      «alt_min_clear» = cleared;
+      «stale_bat_clear» = cleared;
+      «bat_warn_set» = cleared;
+      «bat_warn_clear» = cleared;
+      «bat_low_set» = cleared;
+      «bat_low_clear» = cleared;
+      «bat_crit_set» = cleared;
+      «energy_marg_set» = cleared;
+      «energy_marg_clear» = cleared;
+      «energy_infeas_set» = cleared;
+      «invalid_clear» = cleared;
+      «invalid_active» = false;
+      «rc_lost_set» = cleared;
+      «gcs_stage» = 0;
+    }
+
+-- the same state with the link's timer cleared
+unfoldable pub withoutGcsTimer : TriggerState → TriggerState
+withoutGcsTimer s =
+    record {
+      «battery_critical_latched» = s .«battery_critical_latched»;
+      «energy_infeasible_latched» = s .«energy_infeasible_latched»;
+      «gcs_clear_timer» = cleared;
+      «rc_clear_timer» = s .«rc_clear_timer»;
+      «gps_deg_set» = s .«gps_deg_set»;
+      «gps_deg_clear» = s .«gps_deg_clear»;
+      «gps_lost_set» = s .«gps_lost_set»;
+      «gps_lost_clear» = s .«gps_lost_clear»;
+      «ekf_set» = s .«ekf_set»;
+      «ekf_clear» = s .«ekf_clear»;
+      «fence_breach_set» = s .«fence_breach_set»;
+      «fence_breach_clear» = s .«fence_breach_clear»;
+      «alt_max_set» = s .«alt_max_set»;
+      «alt_max_clear» = s .«alt_max_clear»;
+      «alt_min_set» = s .«alt_min_set»;
+      «alt_min_clear» = s .«alt_min_clear»;
+      «stale_bat_clear» = s .«stale_bat_clear»;
+      «bat_warn_set» = s .«bat_warn_set»;
+      «bat_warn_clear» = s .«bat_warn_clear»;
+      «bat_low_set» = s .«bat_low_set»;
+      «bat_low_clear» = s .«bat_low_clear»;
+      «bat_crit_set» = s .«bat_crit_set»;
+      «energy_marg_set» = s .«energy_marg_set»;
+      «energy_marg_clear» = s .«energy_marg_clear»;
+      «energy_infeas_set» = s .«energy_infeas_set»;
+      «invalid_clear» = s .«invalid_clear»;
+      «invalid_active» = s .«invalid_active»;
+      «rc_lost_set» = s .«rc_lost_set»;
+      «gcs_stage» = s .«gcs_stage»;
+    }
+
+-- what each family makes of the readings, which are validated and filtered. `place` is what is read of a valid position, `margin` what is left of
+-- the energy after a return.
+unfoldable pub families : TriggerState → Telemetry → Config → Float → Float → OptionPlace → OptionF32 → Bool → Families
+families s t cfg minAlt maxAlt place margin invalid =
+    let now = t .«now_ms» in
+    let flying = inAir (freshLanded now (t .landed) (cfg .«status_fresh_ms»)) in
+    let percent = freshBatteryPercent now (t .battery) (cfg .«battery_fresh_ms») (cfg .«usable_capacity_wh») in
+    let volts = freshVoltage now (t .battery) (cfg .«battery_fresh_ms») in
+    record {
+      invalid = invalidInput (s .«invalid_active») (s .«invalid_clear») now invalid (cfg .«invalid_input_clear_ms»);
+      gcs = gcsLink (s .«gcs_clear_timer») (s .«gcs_stage») now (t .«gcs_heartbeat_ms») cfg;
+      rc = rcLink (s .«rc_lost_set») (s .«rc_clear_timer») now (freshTrue now (t .«rc_ok») (cfg .«status_fresh_ms»)) cfg;
+      gps = gps s now (t .gps) cfg;
+      ekf = ekf (s .«ekf_set») (s .«ekf_clear») now (freshTrue now (t .«ekf_ok») (cfg .«status_fresh_ms»)) cfg;
+      fence = fence s now place flying minAlt maxAlt cfg;
+      stale = staleBattery (s .«stale_bat_clear») now percent volts (cfg .«stale_battery_clear_ms»);
+      battery = battery s now percent volts cfg;
+      energy = energy s now margin cfg;
+    }
+
+abbrev pub setIf : ActiveSet → Bool → Reason → Action → ActiveSet
+setIf s on r a = cond on (setRequest s r a) s
+
+abbrev pub setOption : ActiveSet → Reason → OptionAction → ActiveSet
+setOption s r OptionAction.None = s
+setOption s r (OptionAction.Some a) = setRequest s r a
+
+-- the requests that the families file, in the Rust's order
+unfoldable pub linkRequests : Families → ActiveSet
+linkRequests f =
+    let a1 = setIf emptySet (f .invalid .active) Reason.InvalidInput Action.Warn in
+    let a2 = setOption a1 Reason.GcsLinkLost (f .gcs .request) in
+    let a3 = setIf a2 (f .rc .lost) Reason.RcLost Action.ReturnToLaunch in
+    let a4 = setIf a3 (f .gps .degraded .on) Reason.GpsDegraded Action.Warn in
+    let a5 = setIf a4 (f .gps .lost .on) Reason.GpsLost Action.Land in
+    setIf a5 (f .ekf .on) Reason.EkfUnhealthy Action.Land
+
+unfoldable pub fenceRequests : ActiveSet → FenceHeld → ActiveSet
+fenceRequests a f =
+    let a1 = setIf a (f .approach) Reason.FenceApproach Action.Warn in
+    let a2 = setIf a1 (f .breach .on) Reason.FenceBreach Action.ReturnToLaunch in
+    let a3 = setIf a2 (f .«alt_max» .on) Reason.AltitudeMax Action.ReturnToLaunch in
+    setIf a3 (f .«alt_min» .on) Reason.AltitudeMin Action.Warn
+
+unfoldable pub batteryRequests : ActiveSet → Families → ActiveSet
+batteryRequests a f =
+    let a1 = setIf a (f .stale .stale) Reason.StaleBattery Action.ReturnToLaunch in
+    let a2 = setIf a1 (f .battery .warn .on) Reason.BatteryWarn Action.Warn in
+    let a3 = setIf a2 (f .battery .low .on) Reason.BatteryLow Action.ReturnToLaunch in
+    let a4 = setIf a3 (f .battery .critical) Reason.BatteryCritical Action.Land in
+    let a5 = setIf a4 (f .energy .marginal .on) Reason.EnergyRtlMarginal Action.ReturnToLaunch in
+    setIf a5 (f .energy .infeasible) Reason.EnergyRtlInfeasible Action.Land
+
+unfoldable pub requests : Families → ActiveSet
+requests f = batteryRequests (fenceRequests (linkRequests f) (f .fence)) f
+
+-- the state that the families leave
+unfoldable pub nextTriggers : Families → TriggerState
+nextTriggers f =
+    record {
+      «battery_critical_latched» = f .battery .latched;
+      «energy_infeasible_latched» = f .energy .latched;
+      «gcs_clear_timer» = f .gcs .«clear_timer»;
+      «rc_clear_timer» = f .rc .clear;
+      «gps_deg_set» = f .gps .degraded .set;
+      «gps_deg_clear» = f .gps .degraded .clear;
+      «gps_lost_set» = f .gps .lost .set;
+      «gps_lost_clear» = f .gps .lost .clear;
+      «ekf_set» = f .ekf .set;
+      «ekf_clear» = f .ekf .clear;
+      «fence_breach_set» = f .fence .breach .set;
+      «fence_breach_clear» = f .fence .breach .clear;
+      «alt_max_set» = f .fence .«alt_max» .set;
+      «alt_max_clear» = f .fence .«alt_max» .clear;
+      «alt_min_set» = f .fence .«alt_min» .set;
+      «alt_min_clear» = f .fence .«alt_min» .clear;
+      «stale_bat_clear» = f .stale .clear;
+      «bat_warn_set» = f .battery .warn .set;
+      «bat_warn_clear» = f .battery .warn .clear;
+      «bat_low_set» = f .battery .low .set;
+      «bat_low_clear» = f .battery .low .clear;
+      «bat_crit_set» = f .battery .«crit_set»;
+      «energy_marg_set» = f .energy .marginal .set;
+      «energy_marg_clear» = f .energy .marginal .clear;
+      «energy_infeas_set» = f .energy .«infeas_set»;
+      «invalid_clear» = f .invalid .clear;
+      «invalid_active» = f .invalid .active;
+      «rc_lost_set» = f .rc .set;
+      «gcs_stage» = f .gcs .stage;
+    }
+
+-- "A clock fault yields only ClockFault and moves no timer in this module"
+unfoldable pub update : TriggerState → Telemetry → Config → Float → Float → OptionPlace → OptionF32 → Bool → Bool → Updated
+update s t cfg minAlt maxAlt place margin invalid true = record { triggers = s; active = setRequest emptySet Reason.ClockFault Action.Warn }
+update s t cfg minAlt maxAlt place margin invalid false =
+    let f = families s t cfg minAlt maxAlt place margin invalid in
+    record { triggers = nextTriggers f; active = requests f }

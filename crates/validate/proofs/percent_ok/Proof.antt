@@ -1,0 +1,23 @@
+-- `validate::percent_ok` meets its contract. Assumes nothing.
+use borrow.Author.Needs.{needs}
+use Rattle.validate.proofs.percent_ok.Statement.{statement}
+use Rattle.validate.proofs.percent_ok.Tie as tie
+
+enum-known-p : tie.Need-enum-known-p
+enum-known-p c = search needs
+
+validate-percent-requires : tie.Need-validate-percent-requires
+validate-percent-requires c κs = search needs
+
+enum-told : tie.Need-enum-told
+enum-told c = search needs
+
+returns : tie.Need-returns
+returns c = rw (c .before .before .p .given .1, ← c .validate-percent .ensures)
+
+returns-2 : tie.Need-returns-2
+returns-2 c = search needs
+
+pub percent-ok-spec : {M : Type 1} → statement M
+percent-ok-spec =
+    tie.close (tie.spec enum-known-p validate-percent-requires enum-told returns returns-2)

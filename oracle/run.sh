@@ -1,0 +1,61 @@
+#!/usr/bin/env bash
+# Builds the Rust from its sources, which stay where they are, and runs a program of this workspace:
+#   oracle/run.sh PROGRAM [ARGUMENTS]
+# CUTHRANSI_RUST_SRC names the folder that has crates/failsafe-core/src (default: ../shared/docs/src,
+# from the top of the repository). Exit status 77: the sources or cargo are not here.
+set -eu
+top=$(cd "$(dirname "$0")/.." && pwd -P)
+here=$top/oracle
+base=${CUTHRANSI_RUST_SRC:-$top/../shared/docs/src}
+src=$base/crates/failsafe-core/src
+if [ ! -f "$src/lib.rs" ]; then
+    echo "the Rust's source is not here: no crates/failsafe-core/src/lib.rs in $base (set CUTHRANSI_RUST_SRC)" >&2
+    exit 77
+fi
+if ! command -v cargo >/dev/null 2>&1; then
+    echo "cargo is not here" >&2
+    exit 77
+fi
+src=$(cd "$src" && pwd -P)
+
+# Writes standard input to a file, and leaves a file with the same text as it was.
+put() {
+    mkdir -p "$(dirname "$1")"
+    cat >"$1.new"
+    if cmp -s "$1.new" "$1"; then rm "$1.new"; else mv "$1.new" "$1"; fi
+}
+
+# A manifest for the package NAME whose root is FILE.
+manifest() { # NAME FILE
+    put "$here/target/$1/Cargo.toml" <<EOF
+[package]
+name = "$1"
+version = "0.0.0"
+edition = "2024"
+publish = false
+
+[lib]
+path = "$2"
+
+[dependencies]
+libm = { path = "../../libm" }
+
+[workspace]
+EOF
+}
+
+# The Rust as it is; and its modules once more, each of them public, for what lib.rs does not hand out.
+manifest failsafe-core "$src/lib.rs"
+manifest failsafe-modules lib.rs
+{
+    echo '#![allow(dead_code)]'
+    for file in "$src"/*.rs; do
+        name=$(basename "$file" .rs)
+        [ "$name" = lib ] || printf '#[path = "%s"]\npub mod %s;\n' "$file" "$name"
+    done
+} | put "$here/target/failsafe-modules/lib.rs"
+
+program=$1
+shift
+(cd "$here" && cargo build --quiet --offline --release --package "$program") >&2
+exec "$here/target/release/$program" "$@"
