@@ -5,4 +5,3 @@ pub mod Lengths
 pub mod Callers
 pub mod Inside
 pub mod Constants
-pub mod Instances

@@ -2,4 +2,3 @@
 pub mod Ring
 pub mod Acceptance
 pub mod Distance
-pub mod Instances

@@ -1,0 +1,2 @@
+-- The definitions that the contracts of `frame_config` cite.
+pub mod ConfigFrame

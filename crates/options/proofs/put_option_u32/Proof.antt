@@ -1,0 +1,54 @@
+-- `options::put_option_u32` meets its contract. Assumes nothing.
+use Rattle.wire.specs.Fields.{leFlag, le32}
+use Rattle.options.specs.Options.{leOptionU32}
+use denote.Ref.{now}
+use mathlib.Core.Path.{_∙_, sym}
+use mathlib.Core.List.{_++_}
+use lib.Seq.{sets}
+use Rattle.wire.proofs.Past.{sets-past}
+use Rattle.wire.proofs.Stores.{joined}
+use borrow.Author.Needs.{needs}
+use Rattle.options.proofs.put_option_u32.Statement.{statement}
+use Rattle.options.proofs.put_option_u32.Tie as tie
+
+is-some-u32-requires : tie.Need-is-some-u32-requires
+is-some-u32-requires c κs = search needs
+
+put-flag-requires : tie.Need-put-flag-requires
+put-flag-requires c κs = search needs
+
+add-put-u32 : tie.Need-add-put-u32
+add-put-u32 c = search needs
+
+u32-or-zero-requires : tie.Need-u32-or-zero-requires
+u32-or-zero-requires c κs = search needs
+
+put-u32-requires : tie.Need-put-u32-requires
+put-u32-requires c κs = search needs
+
+same-length : tie.Need-same-length
+same-length c = search needs
+
+returns : tie.Need-returns
+unfolding leOptionU32 leFlag
+returns c =
+    let a = c .before .before .before .before .before .before .before .before .before .before .before .before .args in
+    let some = c .before .before .before .before .before .before .before .before .is-some-u32 in
+    let value = c .before .before .before .u32-or-zero in
+    joined (now (a .s)) (a .at) (leFlag (some .result)) (le32 (value .result)) (c .before .before .before .before .before .before .before .put-flag .ensures) (c .before .before .put-u32 .ensures) ∙ (λ j. sets (now (a .s)) (a .at) (leFlag (some .ensures j) ++ le32 (value .ensures j)))
+
+returns-2 : tie.Need-returns-2
+returns-2 c = sym (sets-past (now (c .before .before .args .s)) (c .before .before .args .at) (leOptionU32 (c .before .before .args .o)) (c .if1 .left))
+
+pub put-option-u32-spec : {M : Type 1} → statement M
+put-option-u32-spec =
+    tie.close
+    (tie.spec
+    is-some-u32-requires
+    put-flag-requires
+    add-put-u32
+    u32-or-zero-requires
+    put-u32-requires
+    same-length
+    returns
+    returns-2)

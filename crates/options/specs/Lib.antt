@@ -1,0 +1,4 @@
+-- The definitions that the contracts of `options` cite.
+pub mod Options
+pub mod Position
+pub mod Enums
