@@ -1,4 +1,4 @@
-// The Rust's disarm.rs: when the motors may be stopped. The gate goes in by value and comes back.
+// The Rust's disarm.rs: when the motors may be stopped. The gate goes in by value and comes back; its lent form stands last.
 ghost use mathlib.Core.Path.{_≡_};
 ghost use Rattle.disarm.specs.Disarm.{closed, isLand, onGround, gateOpen, holdFrom, evaluate};
 use types::Action;
@@ -109,5 +109,79 @@ pub fn evaluate_gate(
             gate: reset_gate(),
             eligible: false,
         }
+    }
+}
+
+// The lent form: the caller's gate is changed by reference, with the answers of the by-value functions.
+impl DisarmGate {
+    pub fn reset(&mut self)
+        ensures { λ _. ⌜ now (self .exit) ≡ closed ⌝ }
+    {
+        *self = reset_gate();
+    }
+
+    pub fn evaluate(
+        &mut self,
+        now_ms: u32,
+        armed: OptionStampedBool,
+        landed: OptionStampedLandedState,
+        status_fresh_ms: u32,
+        disarm_hold_ms: u32,
+        requested: Action,
+        clock_fault: bool,
+    ) -> bool
+        ensures { λ r. ⌜ r ≡ evaluate (now (self .entry)) «now_ms» armed landed «status_fresh_ms» «disarm_hold_ms» requested «clock_fault» .eligible ⌝ }
+        ensures { λ _. ⌜ now (self .exit) ≡ evaluate (now (self .entry)) «now_ms» armed landed «status_fresh_ms» «disarm_hold_ms» requested «clock_fault» .gate ⌝ }
+    {
+        let a = evaluate_gate(
+            *self,
+            now_ms,
+            armed,
+            landed,
+            status_fresh_ms,
+            disarm_hold_ms,
+            requested,
+            clock_fault,
+        );
+        *self = a.gate;
+        a.eligible
+    }
+}
+
+// A gate is lent to `reset` and comes back as it was left.
+pub fn reset_lent(gate: DisarmGate) -> DisarmGate
+    ensures { λ left. ⌜ left ≡ closed ⌝ }
+{
+    let mut g = gate;
+    g.reset();
+    g
+}
+
+// A gate is lent to `evaluate` and comes back as it was left, with the answer.
+pub fn evaluate_lent(
+    gate: DisarmGate,
+    now_ms: u32,
+    armed: OptionStampedBool,
+    landed: OptionStampedLandedState,
+    status_fresh_ms: u32,
+    disarm_hold_ms: u32,
+    requested: Action,
+    clock_fault: bool,
+) -> Evaluated
+    ensures { λ r. ⌜ r ≡ evaluate gate «now_ms» armed landed «status_fresh_ms» «disarm_hold_ms» requested «clock_fault» ⌝ }
+{
+    let mut g = gate;
+    let eligible = g.evaluate(
+        now_ms,
+        armed,
+        landed,
+        status_fresh_ms,
+        disarm_hold_ms,
+        requested,
+        clock_fault,
+    );
+    Evaluated {
+        gate: g,
+        eligible: eligible,
     }
 }

@@ -1,0 +1,2 @@
+-- What the proofs of `disarm` share.
+mod Lent

@@ -1,0 +1,71 @@
+/* The flight supervisor's two entries, for an autopilot's host in C.
+ *
+ * Link target/staticlib/libfailsafe.a (made by `rt staticlib failsafe`). The library keeps nothing between
+ * calls, allocates nothing and calls nothing back: all state is in the buffer that the host keeps.
+ *
+ * Every buffer is a pointer and a length. A frame is a two-byte length (of kind and body), a two-byte kind,
+ * and the body; all little-endian. Body fields stand in the Rust's declared order.
+ *
+ *   buffer         kind   bytes               content
+ *   config         1      246                 Config
+ *   fence          2      13 + 8 * corners    corner count, min altitude, max altitude, corners north, east
+ *   telemetry      3      106                 Telemetry
+ *   output         4      95 or more          Decision
+ *   state          5      186                 the supervisor's state
+ *
+ * A bool is a byte 0 or 1, an enum a byte in declared order from 0, an Option a byte 0 or 1 and then its
+ * value, all zero bytes where absent. Written NaNs are 7FC00000 (hexadecimal).
+ *
+ * Both entries answer 0 on success. Any other answer is a refusal, and then no byte of state or output has
+ * changed:
+ *
+ *   1         a frame is short: under 2 bytes, or fewer than 2 + length
+ *   2         not the kind due
+ *   3         a length under 2, or not the kind's, or bytes left over
+ *   4         a flag or enum byte out of range; an absent value not zero; in state also a link stage above 3,
+ *             a row of faults above 2, a number of the stored position or velocity that is not finite
+ *   5         output under 95 bytes (for failsafe_fresh: state under 186)
+ *   10 to 18  the fence: too few corners, too many, not finite, out of envelope, duplicate, collinear, not
+ *             convex, area too small, bad altitudes
+ *   20 to 28  the configuration: home outside the fence, return altitude outside it, not finite, speed not
+ *             positive, negative power, cell count, capacity, order of thresholds, duration out of range
+ *
+ * The first refusal in this order is answered: configuration frame, fence frame, fence rules, configuration
+ * rules, state, telemetry, output; within a frame 1, a length under 2, 2, 3, 4.
+ *
+ * No two buffers of a call may overlap, and nothing else may write to them during the call: the library
+ * can't see either. A pointer may be null where its length is 0.
+ */
+#ifndef FAILSAFE_H
+#define FAILSAFE_H
+
+#include <stddef.h>
+#include <stdint.h>
+
+#ifdef __cplusplus
+extern "C" {
+#endif
+
+#define FAILSAFE_CONFIG_BYTES 246
+#define FAILSAFE_FENCE_BYTES(corners) (13 + 8 * (corners))
+#define FAILSAFE_TELEMETRY_BYTES 106
+#define FAILSAFE_DECISION_BYTES 95
+#define FAILSAFE_STATE_BYTES 186
+
+/* One step: the state is rewritten, and the Decision stands in the first 95 bytes of output; later bytes stay.
+ * Configuration and fence come with every call and are checked each time. */
+uint32_t failsafe_step(const uint8_t *config, size_t config_len,
+                       const uint8_t *fence, size_t fence_len,
+                       uint8_t *state, size_t state_len,
+                       const uint8_t *telemetry, size_t telemetry_len,
+                       uint8_t *output, size_t output_len);
+
+/* A fresh state in the first 186 bytes of state; later bytes stay. failsafe_step takes a state slice of
+ * exactly 186 bytes. */
+uint32_t failsafe_fresh(uint8_t *state, size_t state_len);
+
+#ifdef __cplusplus
+}
+#endif
+
+#endif
