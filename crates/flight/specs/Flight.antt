@@ -1,0 +1,97 @@
+-- Configuration and fence of a flight. Document 01, 'When a call declines': "Across: configuration frame, fence frame, fence rules,
+-- configuration rules, state, telemetry, output." Assumes nothing.
+use Prim.Native.Nat.{ℕ}
+use mathlib.Core.Bool.{false, cond}
+use mathlib.Core.List.{List}
+use lib.Dec.{eqb}
+use lib.ListN.{replicate}
+use lib.Ieee.{binary32, ofBits}
+use Rattle.geometry.specs.declared.FenceResult.{FenceResult}
+use Rattle.geometry.specs.Acceptance.{fenceErrorNumber, zeroF, zeroPoint}
+use Rattle.geometry.specs.Distance.{ringOf, sideLengths, signedDistanceBy}
+use Rattle.config.specs.declared.Config.{Config}
+use Rattle.config.specs.declared.ConfigResult.{ConfigResult}
+use Rattle.config.specs.Config.{configErrorNumber, validateConfig}
+use Rattle.config.specs.Default.{defaultConfig}
+use Rattle.types.specs.declared.Action.{Action}
+use Rattle.types.specs.declared.Reason.{Reason}
+use Rattle.types.specs.declared.OptionF32.{OptionF32}
+use Rattle.types.specs.declared.Telemetry.{Telemetry}
+use Rattle.types.specs.declared.Decision.{Decision}
+use Rattle.types.specs.ActiveSet.{emptySet}
+use Rattle.supervisor.specs.declared.Supervisor.{Supervisor}
+use Rattle.supervisor.specs.declared.Stepped.{Stepped}
+use Rattle.supervisor.specs.Step.{step}
+use Rattle.frame_config.specs.declared.ConfigRead.{ConfigRead}
+use Rattle.frame_config.specs.ConfigFrame.{readConfig}
+use Rattle.frame_fence.specs.declared.FenceRead.{FenceRead}
+use Rattle.frame_fence.specs.FenceFrame.{readFence, fenceOf}
+use Rattle.flight.specs.declared.Flight.{Flight}
+
+-- the first of two refusals; 0 is none
+abbrev pub orRefused : ℕ → ℕ → ℕ
+orRefused a b = cond (eqb a 0) b a
+
+abbrev pub fenceNumber : FenceResult → ℕ
+fenceNumber FenceResult.Ok = 0
+fenceNumber (FenceResult.Err e) = fenceErrorNumber e
+
+abbrev pub configNumber : ConfigResult → ℕ
+configNumber ConfigResult.Ok = 0
+configNumber (ConfigResult.Err e) = configErrorNumber e
+
+-- "fence rules, configuration rules"
+unfoldable pub acceptFlight : Config → FenceRead → Flight
+acceptFlight cfg read =
+    let made = fenceOf read in
+    record {
+      refused = orRefused (fenceNumber (made .result)) (configNumber (validateConfig cfg (made .fence)));
+      cfg = cfg;
+      fence = made .fence;
+      lengths = sideLengths (ringOf (made .fence .poly));
+    }
+
+-- a refusal; what stands beside it is never used
+unfoldable pub refusedFlight : ℕ → Flight
+refusedFlight n =
+    record {
+      refused = n;
+      cfg = defaultConfig;
+      fence = record { poly = record { verts = replicate 16 zeroPoint; len = 0 }; «max_alt_m» = zeroF; «min_alt_m» = zeroF };
+      lengths = record { m = replicate 16 zeroF };
+    }
+
+-- "configuration frame, fence frame", then the rules
+abbrev pub afterConfig : ConfigRead → List ℕ → Flight
+afterConfig (ConfigRead.Refused n) fence = refusedFlight n
+afterConfig (ConfigRead.Frame cfg) fence = let read = readFence fence in cond (eqb (read .refused) 0) (acceptFlight cfg read) (refusedFlight (read .refused))
+
+unfoldable pub readFlight : List ℕ → List ℕ → Flight
+readFlight config fence = afterConfig (readConfig config) fence
+
+-- one step, with the lengths that the flight holds
+unfoldable pub stepFlight : Flight → Supervisor → Telemetry → Stepped
+stepFlight f s t = step (signedDistanceBy (ringOf (f .fence .poly)) (f .lengths .m)) (f .fence .«min_alt_m») (f .fence .«max_alt_m») (f .cfg) s t
+
+-- what stands where no Decision was made
+unfoldable pub blankDecision : Decision
+blankDecision =
+    record {
+      action = Action.Nominal;
+      reason = Reason.None;
+      requested = Action.Nominal;
+      active = emptySet;
+      «position_valid» = false;
+      «clock_fault» = false;
+      energy =
+          record {
+            «rtl_wh» = zeroF;
+            «land_wh» = zeroF;
+            «reserve_wh» = zeroF;
+            «remaining_wh» = OptionF32.None;
+            «margin_wh» = OptionF32.None;
+            «insufficient_for_landing» = false;
+          };
+      «fence_dist_m» = OptionF32.None;
+      «disarm_eligible» = false;
+    }

@@ -1,0 +1,2 @@
+-- The definitions that the contracts of `flight` cite.
+pub mod Flight

@@ -1,0 +1,3 @@
+-- The laws of the corners in a fence frame, and of the fence rules on a frame.
+pub mod Corners
+pub mod Rules

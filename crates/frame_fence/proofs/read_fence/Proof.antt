@@ -1,0 +1,77 @@
+-- `frame_fence::read_fence` meets its contract. Assumes nothing.
+use Prim.Native.Nat.{ℕ}
+use mathlib.Core.Path.{_≡_, _∙_, ap, sym}
+use native.Mathlib.Omega.{arith}
+use denote.Ref.{now}
+use borrow.Author.Tests.{eq-eqb, ne-eqb}
+use Prim.Native.Nat.{_+_, _*_, min}
+use Rattle.wire.specs.Frame.{frameFault}
+use Rattle.frame_fence.specs.FenceFrame.{cornersAt, cornerArray, cornersSent, fenceFault, refusedFence, readFence}
+use borrow.Author.Needs.{needs}
+use Rattle.frame_fence.proofs.read_fence.Statement.{statement}
+use Rattle.frame_fence.proofs.read_fence.Tie as tie
+
+u8-at-requires : tie.Need-u8-at-requires
+u8-at-requires c κs = search needs
+
+length-due-requires : tie.Need-length-due-requires
+length-due-requires c κs = search needs
+
+frame-fault-requires : tie.Need-frame-fault-requires
+frame-fault-requires c κs = search needs
+
+f32-at-requires : tie.Need-f32-at-requires
+f32-at-requires c κs = search needs
+
+f32-at-requires-2 : tie.Need-f32-at-requires-2
+f32-at-requires-2 c κs = search needs
+
+capped-requires : tie.Need-capped-requires
+capped-requires c κs = search needs
+
+corners-at-requires : tie.Need-corners-at-requires
+corners-at-requires c κs = search needs
+
+refused-fence-requires : tie.Need-refused-fence-requires
+refused-fence-requires c κs = search needs
+
+returns : tie.Need-returns
+unfolding readFence fenceFault cornersSent
+returns c =
+    let s = now (c .before .before .before .before .before .before .before .before .before .args .s) in
+    let n = c .before .before .before .before .before .before .before .u8-at .ensures in
+    let f : fenceFault s ≡ 0 =
+    sym (c .before .before .before .before .before .frame-fault .ensures ∙ ap (λ (k : ℕ). frameFault 2 k s) (c .before .before .before .before .before .before .length-due .ensures ∙ ap (λ (k : ℕ). 11 + 8 * k) n)) ∙ c .before .before .before .before .if1 .taken in
+    simp (eq-eqb (fenceFault s) 0 f)
+    (λ j.
+    record {
+      refused = 0;
+      count = n j;
+      «min_alt_m» = c .before .before .before .f32-at .ensures j;
+      «max_alt_m» = c .before .before .f32-at2 .ensures j;
+      corners = (c .corners-at .ensures ∙ ap (λ (k : ℕ). cornerArray (cornersAt s 13 k)) (c .before .capped .ensures ∙ ap (λ (k : ℕ). min k 16) n)) j;
+    })
+
+returns-2 : tie.Need-returns-2
+unfolding readFence fenceFault
+returns-2 c =
+    let s = now (c .before .before .before .before .before .before .args .s) in
+    let n = c .before .before .before .before .u8-at .ensures in
+    let f : c .before .before .frame-fault .result ≡ fenceFault s =
+    c .before .before .frame-fault .ensures ∙ ap (λ (k : ℕ). frameFault 2 k s) (c .before .before .before .length-due .ensures ∙ ap (λ (k : ℕ). 11 + 8 * k) n) in
+    simp (ne-eqb (fenceFault s) 0 (λ h. c .before .if1 .left (f ∙ h))) (c .refused-fence .ensures ∙ ap refusedFence f)
+
+pub read-fence-spec : {M : Type 1} → statement M
+read-fence-spec =
+    tie.close
+    (tie.spec
+    u8-at-requires
+    length-due-requires
+    frame-fault-requires
+    f32-at-requires
+    f32-at-requires-2
+    capped-requires
+    corners-at-requires
+    refused-fence-requires
+    returns
+    returns-2)

@@ -1,0 +1,108 @@
+// Kind 2: a fence in its frame, read as it was sent and written; and the fence rules applied to what was read.
+ghost use mathlib.Core.Path.{_≡_};
+ghost use Prim.Native.Nat.{_+_, _*_, _<_, _≤_, min};
+ghost use Rattle.frame_fence.specs.FenceFrame.{pointAt, cornersAt, cornerArray, refusedFence, readFence, fenceOf};
+use geometry::ConvexPolygon;
+use geometry::Geofence;
+use geometry::GeofenceResult;
+use types::Point2;
+
+// 0 and the fence as sent, its first sixteen corners at most; or the number of the refusal, and zeros.
+pub struct FenceRead {
+    pub refused: u16,
+    pub count: u8,
+    pub min_alt_m: f32,
+    pub max_alt_m: f32,
+    pub corners: [Point2; 16],
+}
+
+fn point_at(s: &[u8], at: usize) -> Point2
+    requires { ⌜ at < 65536 ⌝ }
+    ensures { λ r. ⌜ r ≡ pointAt (now (s .entry)) at ⌝ }
+{
+    Point2 {
+        n: wire::f32_at(s, at),
+        e: wire::f32_at(s, at + 4),
+    }
+}
+
+fn corners_at(s: &[u8], n: usize) -> [Point2; 16]
+    requires { ⌜ n ≤ 16 ⌝ }
+    ensures { λ r. ⌜ r ≡ cornerArray (cornersAt (now (s .entry)) 13 n) ⌝ }
+{
+    let zero = Point2 { n: 0.0, e: 0.0 };
+    let mut corners = [zero; 16];
+    let mut i: usize = 0;
+    while i < n {
+        let p = point_at(s, 13 + 8 * i);
+        corners[i] = p;
+        i += 1;
+    }
+    corners
+}
+
+fn capped(n: u8) -> usize
+    ensures { λ r. ⌜ r ≡ min n 16 ⌝ }
+{
+    if n < 16 { n as usize } else { 16 }
+}
+
+// The length of kind and body that a count of corners makes due.
+fn length_due(count: u8) -> u16
+    ensures { λ r. ⌜ r ≡ 11 + 8 * count ⌝ }
+{
+    11 + 8 * (count as u16)
+}
+
+fn refused_fence(n: u16) -> FenceRead
+    ensures { λ r. ⌜ r ≡ refusedFence n ⌝ }
+{
+    let zero = Point2 { n: 0.0, e: 0.0 };
+    let corners = [zero; 16];
+    FenceRead {
+        refused: n,
+        count: 0,
+        min_alt_m: 0.0,
+        max_alt_m: 0.0,
+        corners: corners,
+    }
+}
+
+// The fence of a whole frame of kind 2, before the fence rules, or the number of the refusal.
+pub fn read_fence(s: &[u8]) -> FenceRead
+    ensures { λ r. ⌜ r ≡ readFence (now (s .entry)) ⌝ }
+{
+    let count = wire::u8_at(s, 4);
+    let fault = wire::frame_fault(s, 2, length_due(count));
+    if fault == 0 {
+        let min_alt_m = wire::f32_at(s, 5);
+        let max_alt_m = wire::f32_at(s, 9);
+        let corners = corners_at(s, capped(count));
+        FenceRead {
+            refused: 0,
+            count: count,
+            min_alt_m: min_alt_m,
+            max_alt_m: max_alt_m,
+            corners: corners,
+        }
+    } else {
+        refused_fence(fault)
+    }
+}
+
+// The fence rules: the polygon's, then the altitudes'. A count above sixteen is refused by the first.
+pub fn fence_of(r: FenceRead) -> GeofenceResult
+    ensures { λ g. ⌜ g ≡ fenceOf r ⌝ }
+{
+    let corners = r.corners;
+    let made = ConvexPolygon::new(corners, r.count as usize);
+    let poly = made.poly;
+    let fenced = Geofence::new(poly, r.min_alt_m, r.max_alt_m);
+    let first = made.result;
+    let second = fenced.result;
+    let fence = fenced.fence;
+    GeofenceResult {
+        result: first.and(second),
+        fence: fence,
+    }
+}

@@ -1,0 +1,3 @@
+-- The definitions that the contracts of `frame_telemetry` cite.
+pub mod Readings
+pub mod TelemetryFrame
