@@ -1,6 +1,9 @@
 #!/usr/bin/env bash
 # Builds the Rust from its sources, which stay where they are, and runs a program of this workspace:
-#   oracle/run.sh PROGRAM [ARGUMENTS]
+#   oracle/run.sh [--profile NAME] [--features NAMES] [--path] PROGRAM [ARGUMENTS]
+# With --path it only builds the program, and prints where it is.
+#   oracle/run.sh --test PACKAGE
+# runs a package's own tests.
 # CUTHRANSI_RUST_SRC names the folder that has crates/failsafe-core/src (default: ../shared/docs/src,
 # from the top of the repository). Exit status 77: the sources or cargo are not here.
 set -eu
@@ -55,7 +58,35 @@ manifest failsafe-modules lib.rs
     done
 } | put "$here/target/failsafe-modules/lib.rs"
 
+# A copy with every module, struct and field public: a state frame holds fields that the Rust keeps to
+# itself. Who uses it compares its Decisions with those of the Rust as it is.
+manifest failsafe-open src/lib.rs
+for file in "$src"/*.rs; do
+    sed -e 's/^mod /pub mod /' -e 's/^struct /pub struct /' \
+        -e '/^pub struct .*{$/,/^}/ s/^    \([a-z_]*:\)/    pub \1/' \
+        "$file" | put "$here/target/failsafe-open/src/$(basename "$file")"
+done
+
+profile=release features=() path= test=
+while :; do
+    case $1 in
+    --profile) profile=$2 && shift 2 ;;
+    --features) features=(--features "$2") && shift 2 ;;
+    --path) path=yes && shift ;;
+    --test) test=yes && shift ;;
+    *) break ;;
+    esac
+done
 program=$1
 shift
-(cd "$here" && cargo build --quiet --offline --release --package "$program") >&2
-exec "$here/target/release/$program" "$@"
+if [ -n "$test" ]; then
+    cd "$here"
+    exec cargo test --quiet --offline --package "$program"
+fi
+(cd "$here" && cargo build --quiet --offline --profile "$profile" --package "$program" "${features[@]}") >&2
+binary=$here/target/$profile/$program
+if [ -n "$path" ]; then
+    echo "$binary"
+    exit 0
+fi
+exec "$binary" "$@"

@@ -1,6 +1,6 @@
 -- The fence rules on a frame that is not refused, and the frames whose count is out of range or missing. Assumes nothing.
 use Prim.Native.Nat.{ℕ, _+_, _*_, _<_, _≤_}
-use mathlib.Core.Path.{_≡_, _∙_, ap, refl}
+use mathlib.Core.Path.{_≡_}
 use mathlib.Core.List.{List}
 use native.Mathlib.Omega.{arith}
 use lib.ListN.{length}
@@ -9,7 +9,7 @@ use Rattle.wire.specs.Fields.{u8At, u16At, f32At}
 use Rattle.wire.specs.Frame.{frameFault}
 use Rattle.geometry.specs.declared.FenceError.{FenceError}
 use Rattle.geometry.specs.declared.FenceResult.{FenceResult}
-use Rattle.geometry.specs.Acceptance.{polygonNew, geofenceNew, resultAnd}
+use Rattle.geometry.specs.Acceptance.{polygonNew}
 use Rattle.geometry.proofs.Callers.{too-few, too-many}
 use Rattle.frame_fence.specs.FenceFrame.{cornersSent, fenceFault, readFence, refusedFence, fenceRules, fenceOf}
 use Rattle.frame_fence.proofs.Corners.{corners-back}
@@ -25,7 +25,7 @@ module _ (s : List ℕ) (h : fenceFault s ≡ 0) where
   unfolding readFence fenceOf
   rules = simp (eq-eqb (fenceFault s) 0 h, corners-back s)
 
-  -- "Kind 2 with a count of 17 to 255 and the matching length is 11, of 0 to 2 is 10"
+  -- a count of 17 to 255 with the matching length is refused by the fence rules: 11; so is one of 0 to 2: 10
   pub many-corners : 16 < u8At s 4 → fenceOf (readFence s) .result ≡ FenceResult.Err FenceError.TooManyVertices
   unfolding fenceRules polygonNew
   many-corners k = rw (rules, too-many (u8At s 4) (cornersSent s) k)

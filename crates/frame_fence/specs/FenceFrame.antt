@@ -2,12 +2,12 @@
 use Prim.Native.Nat.{ℕ, zero, suc, _+_, _*_, _-_, min}
 use mathlib.Core.List.{List, [], _∷_, _++_}
 use mathlib.Core.Bool.{cond}
-use lib.Dec.{eqb}
+use lib.Dec.{eqb, ltb}
 use lib.ListN.{length, take, replicate}
 use lib.Ieee.{Float}
 use Rattle.wire.specs.Fields.{u8At, f32At}
 use Rattle.wire.specs.Cell.{Cell, u8, f32, bytesOf}
-use Rattle.wire.specs.Frame.{frameFault, frameHead}
+use Rattle.wire.specs.Frame.{frameFault, frameHead, roomFault, frameWritten}
 use Rattle.types.specs.declared.Point2.{Point2}
 use Rattle.geometry.specs.declared.GeofenceResult.{GeofenceResult}
 use Rattle.geometry.specs.Acceptance.{zeroF, zeroPoint, resultAnd, polygonNew, geofenceNew}
@@ -33,15 +33,17 @@ fenceFault s = frameFault 2 (11 + 8 * u8At s 4) s
 unfoldable pub cornersSent : List ℕ → List Point2
 cornersSent s = cornersAt s 13 (min (u8At s 4) 16)
 
+-- a refusal: its number, and zeros
 unfoldable pub refusedFence : ℕ → FenceRead
 refusedFence n = record { refused = n; count = 0; «min_alt_m» = zeroF; «max_alt_m» = zeroF; corners = replicate 16 zeroPoint }
 
+-- what an accepted frame gives: the count, the altitudes and the corners, none of them judged yet
+abbrev pub fenceSent : ℕ → Float → Float → List Point2 → FenceRead
+fenceSent n minAlt maxAlt l = record { refused = 0; count = n; «min_alt_m» = minAlt; «max_alt_m» = maxAlt; corners = cornerArray l }
+
 -- the frame read: the refusal, or 0 with the fence as sent
 unfoldable pub readFence : List ℕ → FenceRead
-readFence s =
-    cond (eqb (fenceFault s) 0)
-    (record { refused = 0; count = u8At s 4; «min_alt_m» = f32At s 5; «max_alt_m» = f32At s 9; corners = cornerArray (cornersSent s) })
-    (refusedFence (fenceFault s))
+readFence s = cond (eqb (fenceFault s) 0) (fenceSent (u8At s 4) (f32At s 5) (f32At s 9) (cornersSent s)) (refusedFence (fenceFault s))
 
 -- the fence rules: those of the polygon, with the count as sent, and last the altitudes; the first error decides
 unfoldable pub fenceRules : ℕ → Float → Float → List Point2 → GeofenceResult
@@ -50,12 +52,17 @@ fenceRules n minAlt maxAlt l =
     let fenced = geofenceNew (made .poly) minAlt maxAlt in
     record { result = resultAnd (made .result) (fenced .result); fence = fenced .fence }
 
+-- the rules on what was read
 unfoldable pub fenceOf : FenceRead → GeofenceResult
 fenceOf r = fenceRules (r .count) (r .«min_alt_m») (r .«max_alt_m») (take (r .count) (r .corners))
 
+-- the body as cells
+abbrev pub pointCells : Point2 → List Cell
+pointCells p = f32 (p .n) ∷ f32 (p .e) ∷ []
+
 unfoldable pub cornerCells : List Point2 → List Cell
 cornerCells [] = []
-cornerCells (p ∷ l) = f32 (p .n) ∷ f32 (p .e) ∷ cornerCells l
+cornerCells (p ∷ l) = pointCells p ++ cornerCells l
 
 unfoldable pub fenceCells : ℕ → Float → Float → List Point2 → List Cell
 fenceCells n minAlt maxAlt l = u8 n ∷ f32 minAlt ∷ f32 maxAlt ∷ cornerCells l
@@ -63,3 +70,10 @@ fenceCells n minAlt maxAlt l = u8 n ∷ f32 minAlt ∷ f32 maxAlt ∷ cornerCell
 -- the whole frame of n corners, the first n of l: 11 + 8 × n bytes of kind and body
 unfoldable pub fenceFrame : ℕ → Float → Float → List Point2 → List ℕ
 fenceFrame n minAlt maxAlt l = frameHead 2 (11 + 8 * n) ++ bytesOf (fenceCells n minAlt maxAlt (take n l))
+
+-- An array of sixteen corners makes no frame of more: then the number is 11, that of TooManyVertices, and nothing is written.
+unfoldable pub writeFault : ℕ → List ℕ → List ℕ → ℕ
+writeFault n f s = cond (ltb 16 n) 11 (roomFault f s)
+
+unfoldable pub fenceWritten : ℕ → List ℕ → List ℕ → List ℕ
+fenceWritten n f s = cond (ltb 16 n) s (frameWritten f s)

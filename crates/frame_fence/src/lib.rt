@@ -1,7 +1,11 @@
 // Kind 2: a fence in its frame, read as it was sent and written; and the fence rules applied to what was read.
 ghost use mathlib.Core.Path.{_≡_};
 ghost use Prim.Native.Nat.{_+_, _*_, _<_, _≤_, min};
+ghost use lib.ListN.{take};
+ghost use lib.Seq.{sets};
+ghost use Rattle.wire.specs.Cell.{bytesOf};
 ghost use Rattle.frame_fence.specs.FenceFrame.{pointAt, cornersAt, cornerArray, refusedFence, readFence, fenceOf};
+ghost use Rattle.frame_fence.specs.FenceFrame.{pointCells, cornerCells, fenceFrame, writeFault, fenceWritten};
 use geometry::ConvexPolygon;
 use geometry::Geofence;
 use geometry::GeofenceResult;
@@ -54,7 +58,7 @@ fn length_due(count: u8) -> u16
     11 + 8 * (count as u16)
 }
 
-fn refused_fence(n: u16) -> FenceRead
+pub fn refused_fence(n: u16) -> FenceRead
     ensures { λ r. ⌜ r ≡ refusedFence n ⌝ }
 {
     let zero = Point2 { n: 0.0, e: 0.0 };
@@ -105,4 +109,62 @@ pub fn fence_of(r: FenceRead) -> GeofenceResult
         result: first.and(second),
         fence: fence,
     }
+}
+
+fn widened(n: u8) -> usize
+    ensures { λ r. ⌜ r ≡ n ⌝ }
+{
+    n as usize
+}
+
+fn put_point(s: &mut [u8], at: usize, p: Point2)
+    requires { ⌜ at < 65536 ⌝ }
+    ensures { λ _. ⌜ now (s .exit) ≡ sets (now (s .entry)) at (bytesOf (pointCells p)) ⌝ }
+{
+    wire::put_f32(s, at, p.n);
+    wire::put_f32(s, at + 4, p.e);
+}
+
+fn put_corners(s: &mut [u8], n: usize, corners: [Point2; 16])
+    requires { ⌜ n ≤ 16 ⌝ }
+    ensures { λ _. ⌜ now (s .exit) ≡ sets (now (s .entry)) 13 (bytesOf (cornerCells (take n corners))) ⌝ }
+{
+    let mut i: usize = 0;
+    while i < n {
+        let p = corners[i];
+        put_point(s, 13 + 8 * i, p);
+        i += 1;
+    }
+}
+
+fn put_fence(s: &mut [u8], count: u8, min_alt_m: f32, max_alt_m: f32, corners: [Point2; 16])
+    requires { ⌜ count ≤ 16 ⌝ }
+    ensures { λ _. ⌜ now (s .exit) ≡ sets (now (s .entry)) 0 (fenceFrame count «min_alt_m» «max_alt_m» corners) ⌝ }
+{
+    wire::put_head(s, 2, length_due(count));
+    wire::put_u8(s, 4, count);
+    wire::put_f32(s, 5, min_alt_m);
+    wire::put_f32(s, 9, max_alt_m);
+    put_corners(s, widened(count), corners);
+}
+
+// 0 with the frame of the first `count` corners in the first 13 + 8 × count bytes; 11 for a count above sixteen, else 5 where
+// the slice has fewer bytes, with nothing written.
+pub fn write_fence(
+    s: &mut [u8],
+    count: u8,
+    min_alt_m: f32,
+    max_alt_m: f32,
+    corners: [Point2; 16],
+) -> u16
+    ensures { λ r. ⌜ (r ≡ writeFault count (fenceFrame count «min_alt_m» «max_alt_m» corners) (now (s .entry))) × (now (s .exit) ≡ fenceWritten count (fenceFrame count «min_alt_m» «max_alt_m» corners) (now (s .entry))) ⌝ }
+{
+    if count > 16 {
+        return 11;
+    }
+    if s.len() < 13 + 8 * widened(count) {
+        return 5;
+    }
+    put_fence(s, count, min_alt_m, max_alt_m, corners);
+    0
 }

@@ -21,6 +21,7 @@ use Rattle.types.specs.declared.OptionStampedF32.{OptionStampedF32}
 use Rattle.types.specs.declared.OptionStampedBool.{OptionStampedBool}
 use Rattle.types.specs.declared.OptionStampedLandedState.{OptionStampedLandedState}
 
+-- GpsFix and LandedState, a byte each
 abbrev pub fixOrNone : OptionGpsFix → GpsFix
 fixOrNone OptionGpsFix.None = GpsFix.None
 fixOrNone (OptionGpsFix.Some f) = f
@@ -46,6 +47,7 @@ abbrev pub isSomeGps : OptionGpsSample → Bool
 isSomeGps OptionGpsSample.None = false
 isSomeGps (OptionGpsSample.Some g) = true
 
+-- the sample whose bytes are all zero
 abbrev pub zeroGps : GpsSample
 zeroGps = record { «t_ms» = 0; fix = GpsFix.None; sats = OptionU8.None; hdop = OptionF32.None }
 
@@ -77,6 +79,7 @@ abbrev pub isSomeStampedF32 : OptionStampedF32 → Bool
 isSomeStampedF32 OptionStampedF32.None = false
 isSomeStampedF32 (OptionStampedF32.Some t x) = true
 
+-- stamp and value, 0 and +0 where absent
 abbrev pub stampF32 : OptionStampedF32 → ℕ
 stampF32 OptionStampedF32.None = 0
 stampF32 (OptionStampedF32.Some t x) = t
@@ -96,6 +99,7 @@ abbrev pub isSomeStampedBool : OptionStampedBool → Bool
 isSomeStampedBool OptionStampedBool.None = false
 isSomeStampedBool (OptionStampedBool.Some t b) = true
 
+-- stamp and value, 0 and false where absent
 abbrev pub stampBool : OptionStampedBool → ℕ
 stampBool OptionStampedBool.None = 0
 stampBool (OptionStampedBool.Some t b) = t
@@ -115,6 +119,7 @@ abbrev pub isSomeStampedLanded : OptionStampedLandedState → Bool
 isSomeStampedLanded OptionStampedLandedState.None = false
 isSomeStampedLanded (OptionStampedLandedState.Some t l) = true
 
+-- stamp and value, 0 and Undefined where absent
 abbrev pub stampLanded : OptionStampedLandedState → ℕ
 stampLanded OptionStampedLandedState.None = 0
 stampLanded (OptionStampedLandedState.Some t l) = t

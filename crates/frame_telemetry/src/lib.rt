@@ -4,18 +4,23 @@ ghost use Prim.Native.Nat.{_<_};
 ghost use lib.Seq.{sets};
 ghost use Rattle.wire.specs.Cell.{bytesOf};
 ghost use Rattle.wire.specs.Frame.{roomFault, frameWritten};
-ghost use Rattle.frame_telemetry.specs.Readings.{fixAt, landedAt, optionGpsAt, stampedF32At, stampedBoolAt, stampedLandedAt};
-ghost use Rattle.frame_telemetry.specs.TelemetryFrame.{telemetryAt, telemetryValid, readTelemetry};
+ghost use Rattle.frame_telemetry.specs.Readings.{fixAt, landedAt, optionGpsAt, isSomeGps, zeroGps, gpsOrZero, gpsCells};
+ghost use Rattle.frame_telemetry.specs.Readings.{stampedF32At, isSomeStampedF32, stampF32, valueF32, stampedF32Cells};
+ghost use Rattle.frame_telemetry.specs.Readings.{stampedBoolAt, isSomeStampedBool, stampBool, valueBool, stampedBoolCells};
+ghost use Rattle.frame_telemetry.specs.Readings.{stampedLandedAt, isSomeStampedLanded, stampLanded, valueLanded, stampedLandedCells};
+ghost use Rattle.frame_telemetry.specs.TelemetryFrame.{telemetryAt, telemetryValid, readTelemetry, batteryCells, statusCells, telemetryFrame};
 use types::BatteryInputs;
 use types::GpsFix;
 use types::GpsSample;
 use types::LandedState;
+use types::OptionF32;
 use types::OptionGpsFix;
 use types::OptionGpsSample;
 use types::OptionLandedState;
 use types::OptionStampedBool;
 use types::OptionStampedF32;
 use types::OptionStampedLandedState;
+use types::OptionU8;
 use types::Telemetry;
 
 pub enum TelemetryRead {
@@ -176,4 +181,210 @@ pub fn read_telemetry(s: &[u8]) -> TelemetryRead
     } else {
         TelemetryRead::Refused(fault)
     }
+}
+
+fn is_some_gps(o: OptionGpsSample) -> bool
+    ensures { λ r. ⌜ r ≡ isSomeGps o ⌝ }
+{
+    match o {
+        OptionGpsSample::Some(_) => true,
+        OptionGpsSample::None => false,
+    }
+}
+
+fn zero_gps() -> GpsSample
+    ensures { λ r. ⌜ r ≡ zeroGps ⌝ }
+{
+    let fix = GpsFix::None;
+    let sats = OptionU8::None;
+    let hdop = OptionF32::None;
+    GpsSample {
+        t_ms: 0,
+        fix,
+        sats,
+        hdop,
+    }
+}
+
+fn gps_or_zero(o: OptionGpsSample) -> GpsSample
+    ensures { λ r. ⌜ r ≡ gpsOrZero o ⌝ }
+{
+    match o {
+        OptionGpsSample::Some(g) => g,
+        OptionGpsSample::None => zero_gps(),
+    }
+}
+
+fn put_gps(s: &mut [u8], o: OptionGpsSample)
+    ensures { λ _. ⌜ now (s .exit) ≡ sets (now (s .entry)) 37 (bytesOf (gpsCells o)) ⌝ }
+{
+    let g = gps_or_zero(o);
+    let fix = g.fix;
+    let sats = g.sats;
+    let hdop = g.hdop;
+    wire::put_flag(s, 37, is_some_gps(o));
+    wire::put_u32(s, 38, g.t_ms);
+    wire::put_u8(s, 42, fix.number());
+    options::put_option_u8(s, 43, sats);
+    options::put_option_f32(s, 45, hdop);
+}
+
+fn is_some_stamped_f32(o: OptionStampedF32) -> bool
+    ensures { λ r. ⌜ r ≡ isSomeStampedF32 o ⌝ }
+{
+    match o {
+        OptionStampedF32::Some { t_ms: _, value: _ } => true,
+        OptionStampedF32::None => false,
+    }
+}
+
+fn stamp_f32(o: OptionStampedF32) -> u32
+    ensures { λ r. ⌜ r ≡ stampF32 o ⌝ }
+{
+    match o {
+        OptionStampedF32::Some { t_ms, value: _ } => t_ms,
+        OptionStampedF32::None => 0,
+    }
+}
+
+fn value_f32(o: OptionStampedF32) -> f32
+    ensures { λ r. ⌜ r ≡ valueF32 o ⌝ }
+{
+    match o {
+        OptionStampedF32::Some { t_ms: _, value } => value,
+        OptionStampedF32::None => 0.0,
+    }
+}
+
+fn put_stamped_f32(s: &mut [u8], at: usize, o: OptionStampedF32)
+    requires { ⌜ at < 65536 ⌝ }
+    ensures { λ _. ⌜ now (s .exit) ≡ sets (now (s .entry)) at (bytesOf (stampedF32Cells o)) ⌝ }
+{
+    wire::put_flag(s, at, is_some_stamped_f32(o));
+    wire::put_u32(s, at + 1, stamp_f32(o));
+    wire::put_f32(s, at + 5, value_f32(o));
+}
+
+fn is_some_stamped_bool(o: OptionStampedBool) -> bool
+    ensures { λ r. ⌜ r ≡ isSomeStampedBool o ⌝ }
+{
+    match o {
+        OptionStampedBool::Some { t_ms: _, value: _ } => true,
+        OptionStampedBool::None => false,
+    }
+}
+
+fn stamp_bool(o: OptionStampedBool) -> u32
+    ensures { λ r. ⌜ r ≡ stampBool o ⌝ }
+{
+    match o {
+        OptionStampedBool::Some { t_ms, value: _ } => t_ms,
+        OptionStampedBool::None => 0,
+    }
+}
+
+fn value_bool(o: OptionStampedBool) -> bool
+    ensures { λ r. ⌜ r ≡ valueBool o ⌝ }
+{
+    match o {
+        OptionStampedBool::Some { t_ms: _, value } => value,
+        OptionStampedBool::None => false,
+    }
+}
+
+fn put_stamped_bool(s: &mut [u8], at: usize, o: OptionStampedBool)
+    requires { ⌜ at < 65536 ⌝ }
+    ensures { λ _. ⌜ now (s .exit) ≡ sets (now (s .entry)) at (bytesOf (stampedBoolCells o)) ⌝ }
+{
+    wire::put_flag(s, at, is_some_stamped_bool(o));
+    wire::put_u32(s, at + 1, stamp_bool(o));
+    wire::put_flag(s, at + 5, value_bool(o));
+}
+
+fn is_some_stamped_landed(o: OptionStampedLandedState) -> bool
+    ensures { λ r. ⌜ r ≡ isSomeStampedLanded o ⌝ }
+{
+    match o {
+        OptionStampedLandedState::Some { t_ms: _, value: _ } => true,
+        OptionStampedLandedState::None => false,
+    }
+}
+
+fn stamp_landed(o: OptionStampedLandedState) -> u32
+    ensures { λ r. ⌜ r ≡ stampLanded o ⌝ }
+{
+    match o {
+        OptionStampedLandedState::Some { t_ms, value: _ } => t_ms,
+        OptionStampedLandedState::None => 0,
+    }
+}
+
+fn value_landed(o: OptionStampedLandedState) -> LandedState
+    ensures { λ r. ⌜ r ≡ valueLanded o ⌝ }
+{
+    match o {
+        OptionStampedLandedState::Some { t_ms: _, value } => value,
+        OptionStampedLandedState::None => LandedState::Undefined,
+    }
+}
+
+fn put_stamped_landed(s: &mut [u8], at: usize, o: OptionStampedLandedState)
+    requires { ⌜ at < 65536 ⌝ }
+    ensures { λ _. ⌜ now (s .exit) ≡ sets (now (s .entry)) at (bytesOf (stampedLandedCells o)) ⌝ }
+{
+    let value = value_landed(o);
+    wire::put_flag(s, at, is_some_stamped_landed(o));
+    wire::put_u32(s, at + 1, stamp_landed(o));
+    wire::put_u8(s, at + 5, value.number());
+}
+
+fn put_battery(s: &mut [u8], b: BatteryInputs)
+    ensures { λ _. ⌜ now (s .exit) ≡ sets (now (s .entry)) 50 (bytesOf (batteryCells b)) ⌝ }
+{
+    let voltage_v = b.voltage_v;
+    let percent = b.percent;
+    let remaining_wh = b.remaining_wh;
+    put_stamped_f32(s, 50, voltage_v);
+    put_stamped_f32(s, 59, percent);
+    put_stamped_f32(s, 68, remaining_wh);
+}
+
+fn put_status(s: &mut [u8], t: Telemetry)
+    ensures { λ _. ⌜ now (s .exit) ≡ sets (now (s .entry)) 77 (bytesOf (statusCells t)) ⌝ }
+{
+    let gcs_heartbeat_ms = t.gcs_heartbeat_ms;
+    let armed = t.armed;
+    let landed = t.landed;
+    let rc_ok = t.rc_ok;
+    let ekf_ok = t.ekf_ok;
+    options::put_option_u32(s, 77, gcs_heartbeat_ms);
+    put_stamped_bool(s, 82, armed);
+    put_stamped_landed(s, 88, landed);
+    put_stamped_bool(s, 94, rc_ok);
+    put_stamped_bool(s, 100, ekf_ok);
+}
+
+fn put_telemetry(s: &mut [u8], t: Telemetry)
+    ensures { λ _. ⌜ now (s .exit) ≡ sets (now (s .entry)) 0 (telemetryFrame t) ⌝ }
+{
+    let position = t.position;
+    let gps = t.gps;
+    let battery = t.battery;
+    wire::put_head(s, 3, 104);
+    wire::put_u32(s, 4, t.now_ms);
+    options::put_option_position(s, 8, position);
+    put_gps(s, gps);
+    put_battery(s, battery);
+    put_status(s, t);
+}
+
+// 0 with the frame in the first 106 bytes, or 5 with nothing written where the slice has fewer.
+pub fn write_telemetry(s: &mut [u8], t: Telemetry) -> u16
+    ensures { λ r. ⌜ (r ≡ roomFault (telemetryFrame t) (now (s .entry))) × (now (s .exit) ≡ frameWritten (telemetryFrame t) (now (s .entry))) ⌝ }
+{
+    if s.len() < 106 {
+        return 5;
+    }
+    put_telemetry(s, t);
+    0
 }

@@ -5,8 +5,8 @@ use failsafe_core::{
 };
 
 use crate::polygons::{Corners, circle, corners, fence_words, good, polygon_words};
-use crate::random::{Random, nudged};
 use crate::rows::{Asks, Rows, config_number, given};
+use random::{Random, nudged};
 
 /// Reads or writes a field of a Config as a word.
 trait Word {

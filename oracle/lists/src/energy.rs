@@ -2,8 +2,8 @@
 
 use failsafe_core::{Config, Vec3, rtl_energy};
 
-use crate::random::Random;
 use crate::rows::{Asks, Rows, answered, given};
+use random::Random;
 
 /// What a row gives: the position, what remains, and the Config's last ten fields.
 fn add_row(rows: &mut Rows, pos: Vec3, remaining: Option<f32>, last: [f32; 10]) {
@@ -129,7 +129,7 @@ fn limits(rows: &mut Rows, random: &mut Random) {
         };
         let land = rtl_energy(&Config::default(), pos, None).land_wh;
         for k in [-1, 0, 1] {
-            add_row(rows, pos, Some(crate::random::nudged(land, k)), LAST);
+            add_row(rows, pos, Some(random::nudged(land, k)), LAST);
         }
     }
 }

@@ -3,8 +3,8 @@
 use failsafe_core::{Action, ActiveSet, Reason, Request, Vec3, age_ms};
 use failsafe_modules::time::is_fresh;
 
-use crate::random::{Random, SPECIAL};
 use crate::rows::{Asks, Rows, answered, given};
+use random::{Random, SPECIAL};
 
 const ACTIONS: [Action; 5] = [
     Action::Nominal,

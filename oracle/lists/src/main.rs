@@ -6,7 +6,6 @@ mod config;
 mod energy;
 mod leaves;
 mod polygons;
-mod random;
 mod rows;
 
 use rows::Rows;

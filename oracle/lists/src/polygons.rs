@@ -2,8 +2,8 @@
 
 use failsafe_core::{ConvexPolygon, FenceError, Geofence, MAX_FENCE_VERTS, Point2};
 
-use crate::random::{Random, SPECIAL, nudged};
 use crate::rows::{Asks, Rows, answered, fence_number, given};
+use random::{Random, SPECIAL, nudged};
 
 pub type Corners = Vec<Point2>;
 
@@ -74,20 +74,8 @@ fn add_both(rows: &mut Rows, points: &[Point2]) {
     add_polygon(rows, &back);
 }
 
-/// n corners in order on a circle, about evenly. Only sums, products and quotients of f64, so that
-/// every machine gives the same ones.
 pub fn circle(random: &mut Random, n: usize, radius: f64, centre: (f64, f64)) -> Corners {
-    (0..n)
-        .map(|i| {
-            let u = (i as f64 + 0.3 + random.between(0.0, 0.4) as f64) / n as f64;
-            let t = (u - 0.5) / (2.0 * u * (1.0 - u));
-            let (n, e) = ((1.0 - t * t) / (1.0 + t * t), 2.0 * t / (1.0 + t * t));
-            Point2 {
-                n: (centre.0 + radius * n) as f32,
-                e: (centre.1 + radius * e) as f32,
-            }
-        })
-        .collect()
+    corners(&random::circle(random, n, radius, centre))
 }
 
 fn centre(random: &mut Random, within: f32) -> (f64, f64) {

@@ -1,10 +1,11 @@
 //! Rows of words and their answers, as text.
 
 use std::collections::BTreeMap;
-use std::fmt::Write;
 use std::path::Path;
 
 use failsafe_core::{ConfigError, FenceError};
+use words::line;
+pub use words::{answered, given};
 
 /// What a row asks. crates/replay has the same numbers.
 #[derive(Clone, Copy, PartialEq, Eq, PartialOrd, Ord, Debug)]
@@ -72,26 +73,6 @@ impl Rows {
         std::fs::write(folder.join("stdin"), &self.rows)?;
         std::fs::write(folder.join("stdout"), &self.answers)
     }
-}
-
-/// Words of eight hexadecimal digits with a space between them and a line end after the last.
-fn line<'a>(text: &mut String, words: impl Iterator<Item = &'a u32>) {
-    let mut end = "";
-    for word in words {
-        write!(text, "{end}{word:08X}").expect("a string takes all");
-        end = " ";
-    }
-    text.push('\n');
-}
-
-/// A float that is handed in: its bits.
-pub fn given(x: f32) -> u32 {
-    x.to_bits()
-}
-
-/// A float that is answered: its bits, and for every NaN 7FC00000.
-pub fn answered(x: f32) -> u32 {
-    if x.is_nan() { 0x7FC0_0000 } else { x.to_bits() }
 }
 
 /// 10 to 18, in declared order.

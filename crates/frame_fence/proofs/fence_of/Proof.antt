@@ -1,4 +1,6 @@
 -- `frame_fence::fence_of` meets its contract. Assumes nothing.
+use mathlib.Core.Path.{_∙_}
+use Rattle.geometry.specs.Acceptance.{resultAnd, geofenceNew}
 use Rattle.frame_fence.specs.FenceFrame.{fenceRules, fenceOf}
 use borrow.Author.Needs.{needs}
 use Rattle.frame_fence.proofs.fence_of.Statement.{statement}
@@ -18,7 +20,12 @@ and-requires c κs = search needs
 
 returns : tie.Need-returns
 unfolding fenceRules fenceOf
-returns c = rw (← c .before .before .before .before .new .ensures, ← c .before .before .new2 .ensures, ← c .and .ensures)
+returns c =
+    let r = c .before .before .before .before .before .before .before .args .r in
+    let made = c .before .before .before .before .new .ensures in
+    let fenced = c .before .before .new2 .ensures ∙ (λ j. geofenceNew (made j .poly) (r .«min_alt_m») (r .«max_alt_m»)) in
+    let first = c .and .ensures ∙ (λ j. resultAnd (made j .result) (fenced j .result)) in
+    λ j. record { result = first j; fence = fenced j .fence }
 
 pub fence-of-spec : {M : Type 1} → statement M
 fence-of-spec = tie.close (tie.spec cast-new new-requires new-requires-2 and-requires returns)

@@ -93,3 +93,17 @@ pub fn nudged(x: f32, k: i32) -> f32 {
     let by = if x.is_sign_negative() { -k } else { k };
     f32::from_bits(x.to_bits().wrapping_add_signed(by))
 }
+
+/// n corners (north, east) in order on a circle, about evenly. Only sums, products and quotients of f64, so
+/// that every machine gives the same ones.
+pub fn circle(random: &mut Random, n: usize, radius: f64, centre: (f64, f64)) -> Vec<(f32, f32)> {
+    (0..n)
+        .map(|i| {
+            let u = (i as f64 + 0.3 + random.between(0.0, 0.4) as f64) / n as f64;
+            let t = (u - 0.5) / (2.0 * u * (1.0 - u));
+            let (n, e) = ((1.0 - t * t) / (1.0 + t * t), 2.0 * t / (1.0 + t * t));
+            let (n, e) = (centre.0 + radius * n, centre.1 + radius * e);
+            (n as f32, e as f32)
+        })
+        .collect()
+}

@@ -1,0 +1,43 @@
+-- A state slice that was read is exactly a frame long, so a written state frame is all of it; a written Decision stands before the later bytes. Assumes nothing.
+use Prim.Native.Nat.{ℕ, _≤_}
+use native.Mathlib.Nat.{le-of-eq}
+use native.Mathlib.Omega.{arith}
+use mathlib.Core.Bool.{Bool, true, false, cond}
+use mathlib.Core.List.{List, [], _++_, append-nil}
+use mathlib.Core.Path.{_≡_, refl, ap, sym, _∙_}
+use lib.Dec.{eqb, ltb}
+use lib.ListN.{length, drop, drop-of-length-le}
+use borrow.Author.Tests.{eqb-true, eqb-false, le-ltb}
+use Rattle.types.specs.declared.Decision.{Decision}
+use Rattle.supervisor.specs.declared.Supervisor.{Supervisor}
+use Rattle.wire.specs.Frame.{frameFault, frameWritten}
+use Rattle.wire.proofs.Head.{head-says}
+use Rattle.frame_state.specs.declared.StateRead.{StateRead}
+use Rattle.frame_state.specs.StateFrame.{stateAt, stateValid, readState, stateFrame}
+use Rattle.frame_state.proofs.Size.{size as state-size}
+use Rattle.frame_decision.specs.DecisionFrame.{decisionFrame}
+use Rattle.frame_decision.proofs.Size.{size as decision-size}
+use Rattle.flight.specs.declared.Flight.{Flight}
+use Rattle.failsafe.specs.Entry.{blankStep, afterState, stepFrames}
+
+-- where neither state nor telemetry is refused, the state slice has 186 bytes
+pub state-bytes : (f : Flight) (state telemetry : List ℕ) → stepFrames f state telemetry .refused ≡ 0 → length state ≡ 186
+unfolding stepFrames readState blankStep
+state-bytes f state telemetry h = at (eqb (frameFault 5 184 state) 0) refl h
+  where
+    at : (b : Bool) → eqb (frameFault 5 184 state) 0 ≡ b → afterState (cond b (cond (stateValid state) (StateRead.Frame (stateAt state)) (StateRead.Refused 4)) (StateRead.Refused (frameFault 5 184 state))) f telemetry .refused ≡ 0 → length state ≡ 186
+    at true e r = head-says 5 184 state (eqb-true _ _ e) .1 .1
+    at false e r = absurd (eqb-false _ _ e r)
+
+pub state-written : (x : Supervisor) (state : List ℕ) → length state ≡ 186 → frameWritten (stateFrame x) state ≡ stateFrame x
+unfolding frameWritten
+state-written x state h =
+    let s = state-size x in
+    let e : length state ≡ length (stateFrame x) = h ∙ sym s in
+    rw (le-ltb (length state) (length (stateFrame x)) (omega arith), drop-of-length-le state {i = length (stateFrame x)} (le-of-eq e)) (append-nil (stateFrame x))
+
+pub decision-written : (d : Decision) (output : List ℕ) → 95 ≤ length output → frameWritten (decisionFrame d) output ≡ decisionFrame d ++ drop 95 output
+unfolding frameWritten
+decision-written d output h =
+    let s = decision-size d in
+    rw (le-ltb (length output) (length (decisionFrame d)) (omega arith)) (ap (λ (n : ℕ). decisionFrame d ++ drop n output) s)

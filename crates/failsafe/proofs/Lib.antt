@@ -1,0 +1,2 @@
+-- The laws that the entries' proofs cite.
+pub mod Buffers

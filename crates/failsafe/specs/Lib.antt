@@ -1,0 +1,2 @@
+-- The definitions that the contracts of `failsafe` cite.
+pub mod Entry

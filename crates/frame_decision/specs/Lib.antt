@@ -1,0 +1,3 @@
+-- The definitions that the contracts of `frame_decision` cite.
+pub mod Slots
+pub mod DecisionFrame

@@ -1,0 +1,82 @@
+-- `frame_state::put_state` meets its contract: the calls' contracts, one after the other, are a run of stores. Assumes nothing.
+use Prim.Native.Nat.{ℕ}
+use mathlib.Core.Path.{_≡_, _∙_, ap, refl}
+use mathlib.Core.List.{List, [], _∷_}
+use lib.ListN.{length}
+use lib.Seq.{sets, length-sets}
+use denote.Ref.{now}
+use Rattle.wire.specs.Fields.{le8, leFlag, leBytes, le16, le32, leF32}
+use Rattle.wire.specs.Frame.{frameHead}
+use Rattle.wire.proofs.Stores.{Piece, put, after, done, into, ran}
+use Rattle.options.specs.Options.{leOptionU32}
+use Rattle.options.specs.Position.{leVec3, leOptionPosition}
+use Rattle.options.specs.Enums.{leAction, leReason}
+use Rattle.supervisor.specs.declared.Supervisor.{Supervisor}
+use Rattle.frame_state.specs.StateFrame.{leTimer, leLinks, leFence, leBattery, leInput, leTriggers, leArbiter, stateFrame}
+use Rattle.frame_state.proofs.put_state.Statement.{statement}
+use Rattle.frame_state.proofs.put_state.Tie as tie
+
+abbrev pieces : Supervisor → List Piece
+pieces x =
+    put 0 (frameHead 5 184) ∷
+    put 4 (leTriggers (x .triggers)) ∷
+    put 133 (leArbiter (x .arbiter)) ∷
+    put 140 (leOptionU32 (x .disarm .«hold_since_ms»)) ∷
+    put 145 (leOptionPosition (x .glitch .«last_accepted»)) ∷
+    put 174 (le8 (x .glitch .«reject_streak»)) ∷
+    put 175 (leOptionU32 (x .«last_now»)) ∷
+    put 180 (le32 (x .«epoch_start»)) ∷
+    put 184 (le8 (x .«backwards_streak»)) ∷
+    put 185 (leFlag (x .initialized)) ∷
+    []
+
+flat : (l : List ℕ) (x : Supervisor) → after l (pieces x) ≡ sets l 0 (stateFrame x)
+unfolding stateFrame frameHead leTriggers leLinks leFence leBattery leInput leTimer leArbiter leAction leReason leOptionU32 leOptionPosition leVec3 leF32 le8 le16 le32 leBytes leFlag
+flat l x = refl
+
+returns : tie.Need-returns
+returns c =
+    let p10 = c .before .before in
+    let p9 = p10 .before .before .before .before in
+    let p8 = p9 .before .before .before .before in
+    let p7 = p8 .before .before .before .before in
+    let p6 = p7 .before .before .before .before in
+    let p5 = p6 .before .before .before .before in
+    let p4 = p5 .before .before .before .before in
+    let p3 = p4 .before .before .before .before in
+    let p2 = p3 .before .before .before .before in
+    let p1 = p2 .before .before .before .before in
+    let a = p1 .before .before .before .before .before .before .before .args in
+    ran (now (a .s)) (pieces (a .x)) _
+    (into (p1 .put-head .ensures)
+    (into (p2 .put-triggers .ensures)
+    (into (p3 .put-arbiter .ensures)
+    (into (p4 .put-option-u32 .ensures)
+    (into (p5 .put-option-position .ensures)
+    (into (p6 .put-u8 .ensures)
+    (into (p7 .put-option-u322 .ensures)
+    (into (p8 .put-u32 .ensures)
+    (into (p9 .put-u82 .ensures)
+    (into (p10 .put-flag .ensures)
+    done))))))))))
+    ∙ flat (now (a .s)) (a .x)
+
+same-length : tie.Need-same-length
+same-length c = ap length (returns c) ∙ simp length-sets
+
+pub put-state-spec : {M : Type 1} → statement M
+put-state-spec =
+    tie.close
+    (tie.spec
+    (λ c κs. tt)
+    (λ c κs. tt)
+    (λ c κs. tt)
+    (λ c κs. tt)
+    (λ c κs. tt)
+    (λ c κs. tt)
+    (λ c κs. tt)
+    (λ c κs. tt)
+    (λ c κs. tt)
+    (λ c κs. tt)
+    same-length
+    returns)

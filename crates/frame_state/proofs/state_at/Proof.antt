@@ -1,0 +1,42 @@
+-- `frame_state::state_at` meets its contract: field by field, by what each call ensures. Assumes nothing.
+use Rattle.frame_state.specs.StateFrame.{stateAt}
+use Rattle.frame_state.proofs.state_at.Statement.{statement}
+use Rattle.frame_state.proofs.state_at.Tie as tie
+
+returns : tie.Need-returns
+unfolding stateAt
+returns c =
+    let c8 = c .before in
+    let c7 = c8 .before in
+    let c6 = c7 .before in
+    let c5 = c6 .before in
+    let c4 = c5 .before in
+    let c3 = c4 .before in
+    let c2 = c3 .before in
+    let c1 = c2 .before in
+    λ i.
+    record {
+      triggers = c1 .triggers-at .ensures i;
+      arbiter = c2 .arbiter-at .ensures i;
+      disarm = record { «hold_since_ms» = c3 .option-u32-at .ensures i };
+      glitch = record { «last_accepted» = c4 .option-position-at .ensures i; «reject_streak» = c5 .u8-at .ensures i };
+      «last_now» = c6 .option-u32-at2 .ensures i;
+      «epoch_start» = c7 .u32-at .ensures i;
+      «backwards_streak» = c8 .u8-at2 .ensures i;
+      initialized = c .flag-at .ensures i;
+    }
+
+pub state-at-spec : {M : Type 1} → statement M
+state-at-spec =
+    tie.close
+    (tie.spec
+    (λ c κs. tt)
+    (λ c κs. tt)
+    (λ c κs. tt)
+    (λ c κs. tt)
+    (λ c κs. tt)
+    (λ c κs. tt)
+    (λ c κs. tt)
+    (λ c κs. tt)
+    (λ c κs. tt)
+    returns)

@@ -1,0 +1,88 @@
+-- A step leaves None and Nominal in each absent slot: requests are only filed, into an empty set. Assumes nothing.
+use mathlib.Core.Bool.{Bool, true, false, cond}
+use lib.Ieee.{Float}
+use Rattle.types.specs.declared.Action.{Action}
+use Rattle.types.specs.declared.Reason.{Reason}
+use Rattle.types.specs.declared.ActiveSet.{ActiveSet}
+use Rattle.types.specs.declared.OptionAction.{OptionAction}
+use Rattle.types.specs.declared.OptionF32.{OptionF32}
+use Rattle.types.specs.declared.Point2.{Point2}
+use Rattle.types.specs.declared.Telemetry.{Telemetry}
+use Rattle.types.specs.ActiveSet.{emptySet}
+use Rattle.config.specs.declared.Config.{Config}
+use Rattle.validate.specs.Bounds.{validateTelemetry}
+use Rattle.validate.specs.Fresh.{confirmedDisarm}
+use Rattle.triggers.specs.declared.FenceHeld.{FenceHeld}
+use Rattle.triggers.specs.declared.Families.{Families}
+use Rattle.triggers.specs.declared.OptionPlace.{OptionPlace}
+use Rattle.triggers.specs.declared.TriggerState.{TriggerState}
+use Rattle.triggers.specs.Update.{setIf, setOption, linkRequests, fenceRequests, batteryRequests, requests, families, update}
+use Rattle.supervisor.specs.declared.Supervisor.{Supervisor}
+use Rattle.supervisor.specs.Clock.{clockStep}
+use Rattle.supervisor.specs.Step.{triggersAfter, arbiterAfter, glitchAfter, sense, disarmedDecision, disarmed, decisionOf, flown, step}
+use Rattle.frame_decision.specs.Slots.{Canonical}
+use Rattle.frame_decision.proofs.Slots.{canonical-empty, canonical-set}
+
+abbrev Kept : ActiveSet → Type 0
+Kept s = Canonical (s .reqs)
+
+file : (s : ActiveSet) (on : Bool) (r : Reason) (a : Action) → Kept s → Kept (setIf s on r a)
+file s true r a h = canonical-set s r a h
+file s false r a h = h
+
+file-option : (s : ActiveSet) (r : Reason) (o : OptionAction) → Kept s → Kept (setOption s r o)
+file-option s r OptionAction.None h = h
+file-option s r (OptionAction.Some a) h = canonical-set s r a h
+
+links : (f : Families) → Kept (linkRequests f)
+unfolding linkRequests
+links f =
+    file _ (f .ekf .on) _ _
+    (file _ (f .gps .lost .on) _ _
+    (file _ (f .gps .degraded .on) _ _
+    (file _ (f .rc .lost) _ _
+    (file-option _ _ (f .gcs .request)
+    (file emptySet (f .invalid .active) Reason.InvalidInput Action.Warn canonical-empty)))))
+
+fences : (s : ActiveSet) (f : FenceHeld) → Kept s → Kept (fenceRequests s f)
+unfolding fenceRequests
+fences s f h =
+    file _ (f .«alt_min» .on) _ _
+    (file _ (f .«alt_max» .on) _ _
+    (file _ (f .breach .on) _ _
+    (file s (f .approach) Reason.FenceApproach Action.Warn h)))
+
+batteries : (s : ActiveSet) (f : Families) → Kept s → Kept (batteryRequests s f)
+unfolding batteryRequests
+batteries s f h =
+    file _ (f .energy .infeasible) _ _
+    (file _ (f .energy .marginal .on) _ _
+    (file _ (f .battery .critical) _ _
+    (file _ (f .battery .low .on) _ _
+    (file _ (f .battery .warn .on) _ _
+    (file s (f .stale .stale) Reason.StaleBattery Action.ReturnToLaunch h)))))
+
+updated : (s : TriggerState) (t : Telemetry) (cfg : Config) (lo hi : Float) (p : OptionPlace) (m : OptionF32) (i f : Bool) → Kept (update s t cfg lo hi p m i f .active)
+unfolding update requests
+updated s t cfg lo hi p m i true = canonical-set emptySet Reason.ClockFault Action.Warn canonical-empty
+updated s t cfg lo hi p m i false =
+    let f = families s t cfg lo hi p m i in
+    batteries (fenceRequests (linkRequests f) (f .fence)) f (fences (linkRequests f) (f .fence) (links f))
+
+either : (A : Bool → Type 0) → A true → A false → (b : Bool) → A b
+either A t f true = t
+either A t f false = f
+
+pub step-canonical : (dist : Point2 → Float) (lo hi : Float) (cfg : Config) (s : Supervisor) (raw : Telemetry) → Canonical (step dist lo hi cfg s raw .decision .active .reqs)
+unfolding step disarmed disarmedDecision flown sense decisionOf
+step-canonical dist lo hi cfg s raw =
+    let clock = clockStep (s .«last_now») (s .«epoch_start») (s .«backwards_streak») (s .initialized) (raw .«now_ms») in
+    let v = validateTelemetry raw (cfg .«usable_capacity_wh») in
+    let t = v .telemetry in
+    let glitch = glitchAfter (clock .third) (s .glitch) in
+    let sensed = sense dist lo hi (triggersAfter (clock .third) (s .triggers)) glitch t (v .«invalid_input») cfg (clock .fault) in
+    either
+    (λ b. Kept (cond b (disarmed cfg clock glitch) (flown sensed (arbiterAfter (clock .third) (s .arbiter)) (s .disarm) clock t cfg) .decision .active))
+    canonical-empty
+    (updated _ _ _ _ _ _ _ _ (clock .fault))
+    (confirmedDisarm (t .«now_ms») (t .armed) (cfg .«status_fresh_ms»))

@@ -1,0 +1,58 @@
+// The frames of what a step leaves, written and read again: the very state, and the very Decision.
+ghost use mathlib.Core.Path.{_≡_};
+ghost use Rattle.geometry.specs.Distance.{ringOf, signedDistance};
+ghost use Rattle.supervisor.specs.Rules.{Rules};
+ghost use Rattle.supervisor.specs.Step.{step};
+ghost use Rattle.frame_decision.specs.DecisionFrame.{accepted, canonical};
+use config::Config;
+use frame_decision::DecisionRead;
+use frame_state::StateRead;
+use geometry::Geofence;
+use supervisor::Supervisor;
+use types::Decision;
+use types::Telemetry;
+
+// A state that obeys the frame's rules.
+pub fn state_again(x: Supervisor) -> StateRead
+    ensures { λ r. ⌜ (Rules x → r ≡ StateRead.Frame x) ⌝ }
+{
+    let mut b = [0u8; 186];
+    frame_state::write_state(&mut b, x);
+    frame_state::read_state(&b)
+}
+
+// Any Decision, up to what its absent slots hold.
+pub fn decision_again(d: Decision) -> DecisionRead
+    ensures { λ r. ⌜ r ≡ accepted (canonical d) ⌝ }
+{
+    let mut b = [0u8; 95];
+    frame_decision::write_decision(&mut b, d);
+    frame_decision::read_decision(&b)
+}
+
+// The state after a step from a state that obeys the rules.
+pub fn stepped_state_again(x: Supervisor, cfg: Config, fence: Geofence, raw: Telemetry) -> StateRead
+    ensures { λ r. ⌜ (Rules x → r ≡ StateRead.Frame (step (signedDistance (ringOf (fence .poly))) (fence .«min_alt_m») (fence .«max_alt_m») cfg x raw .supervisor)) ⌝ }
+{
+    let y = x.step(cfg, fence, raw);
+    let s = y.supervisor;
+    let mut b = [0u8; 186];
+    frame_state::write_state(&mut b, s);
+    frame_state::read_state(&b)
+}
+
+// The Decision of a step.
+pub fn stepped_decision_again(
+    x: Supervisor,
+    cfg: Config,
+    fence: Geofence,
+    raw: Telemetry,
+) -> DecisionRead
+    ensures { λ r. ⌜ r ≡ accepted (step (signedDistance (ringOf (fence .poly))) (fence .«min_alt_m») (fence .«max_alt_m») cfg x raw .decision) ⌝ }
+{
+    let y = x.step(cfg, fence, raw);
+    let d = y.decision;
+    let mut b = [0u8; 95];
+    frame_decision::write_decision(&mut b, d);
+    frame_decision::read_decision(&b)
+}

@@ -1,0 +1,3 @@
+-- The laws of a Telemetry frame.
+pub mod Stamped
+pub mod Size

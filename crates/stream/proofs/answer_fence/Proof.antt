@@ -1,0 +1,50 @@
+-- `stream::answer_fence` meets its contract. Assumes nothing.
+use Rattle.stream.specs.Stream.{answerFence}
+use borrow.Author.Tests.{eq-eqb, ne-eqb}
+use borrow.Author.Needs.{needs}
+use Rattle.stream.proofs.answer_fence.Statement.{statement}
+use Rattle.stream.proofs.answer_fence.Tie as tie
+
+read-fence-requires : tie.Need-read-fence-requires
+read-fence-requires c κs = search needs
+
+refusal-requires : tie.Need-refusal-requires
+refusal-requires c κs = search needs
+
+returns : tie.Need-returns
+unfolding answerFence
+returns c = rw (← c .before .before .read-fence .ensures, ne-eqb _ _ (c .before .if1 .taken), ← c .refusal .ensures)
+
+accept-flight-requires : tie.Need-accept-flight-requires
+accept-flight-requires c κs = search needs
+
+refusal-requires-2 : tie.Need-refusal-requires-2
+refusal-requires-2 c κs = search needs
+
+returns-2 : tie.Need-returns-2
+unfolding answerFence
+returns-2 c = rw (← c .before .before .before .before .read-fence .ensures, eq-eqb _ _ (c .before .before .before .if1 .left), ← c .before .before .accept-flight .ensures, ne-eqb _ _ (c .before .if2 .taken), ← c .refusal2 .ensures)
+
+in-flight-requires : tie.Need-in-flight-requires
+in-flight-requires c κs = search needs
+
+blank-answer-requires : tie.Need-blank-answer-requires
+blank-answer-requires c κs = search needs
+
+returns-3 : tie.Need-returns-3
+unfolding answerFence
+returns-3 c = rw (← c .before .before .before .before .before .read-fence .ensures, eq-eqb _ _ (c .before .before .before .before .if1 .left), ← c .before .before .before .accept-flight .ensures, eq-eqb _ _ (c .before .before .if2 .left), ← c .before .in-flight .ensures, ← c .blank-answer .ensures)
+
+pub answer-fence-spec : {M : Type 1} → statement M
+answer-fence-spec =
+    tie.close
+    (tie.spec
+    read-fence-requires
+    refusal-requires
+    returns
+    accept-flight-requires
+    refusal-requires-2
+    returns-2
+    in-flight-requires
+    blank-answer-requires
+    returns-3)

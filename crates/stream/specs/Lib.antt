@@ -1,0 +1,2 @@
+-- The definitions that the contracts of `stream` cite.
+pub mod Stream

@@ -1,0 +1,109 @@
+//! Document 01's program `decide` in plain Rust: reads a kind 1, a kind 2, then kind 3 frames, and writes one
+//! kind 4 frame a step; at the first refusal one kind 255 frame. It reads and writes in blocks, and writes what
+//! it has before it waits for more.
+
+use std::io::{Read, Write};
+
+use failsafe_core::{Config, Supervisor, Telemetry};
+use frames::{
+    CONFIG, DECISION, DECISION_FRAME, REFUSAL_FRAME, TELEMETRY, TRUNCATED, config_error_core,
+    fence_core, put_frame, put_refusal, read_fence, read_frame,
+};
+
+/// The longest frame.
+const LONGEST: usize = 2 + 65_535;
+const BLOCK: usize = 1 << 16;
+
+enum Due {
+    Config,
+    Fence(Box<Config>),
+    Telemetry(Box<Supervisor>),
+}
+
+impl Due {
+    /// Takes the next frame; true where it filled `to` with a Decision.
+    fn take(&mut self, frame: &[u8], to: &mut [u8]) -> Result<bool, u32> {
+        match self {
+            Due::Config => {
+                *self = Due::Fence(Box::new(read_frame(CONFIG, frame)?));
+                Ok(false)
+            }
+            Due::Fence(cfg) => {
+                let fence = fence_core(&read_fence(frame)?)?;
+                let new = Supervisor::new(**cfg, fence).map_err(config_error_core)?;
+                *self = Due::Telemetry(Box::new(new));
+                Ok(false)
+            }
+            Due::Telemetry(supervisor) => {
+                let raw: Telemetry = read_frame(TELEMETRY, frame)?;
+                put_frame(DECISION, &supervisor.step(&raw), to);
+                Ok(true)
+            }
+        }
+    }
+}
+
+/// The bytes of the first frame, where all of them are there.
+fn whole(bytes: &[u8]) -> Option<usize> {
+    let head = bytes.get(..2)?;
+    let length = 2 + u16::from_le_bytes([head[0], head[1]]) as usize;
+    (bytes.len() >= length).then_some(length)
+}
+
+struct Output {
+    bytes: Vec<u8>,
+    used: usize,
+}
+
+impl Output {
+    /// Room for one more frame, after what is there was written out where need be.
+    fn room(&mut self) -> std::io::Result<&mut [u8]> {
+        if self.used + DECISION_FRAME > self.bytes.len() {
+            self.flush()?;
+        }
+        Ok(&mut self.bytes[self.used..])
+    }
+
+    fn flush(&mut self) -> std::io::Result<()> {
+        let mut out = std::io::stdout().lock();
+        out.write_all(&self.bytes[..self.used])?;
+        out.flush()?;
+        self.used = 0;
+        Ok(())
+    }
+
+    fn refuse(&mut self, number: u32) -> std::io::Result<()> {
+        put_refusal(number, self.room()?);
+        self.used += REFUSAL_FRAME;
+        self.flush()
+    }
+}
+
+fn main() -> std::io::Result<()> {
+    let mut due = Due::Config;
+    let mut input = vec![0; LONGEST + BLOCK];
+    let (mut from, mut to) = (0, 0);
+    let mut output = Output {
+        bytes: vec![0; BLOCK],
+        used: 0,
+    };
+    let mut stdin = std::io::stdin().lock();
+    loop {
+        while let Some(length) = whole(&input[from..to]) {
+            match due.take(&input[from..from + length], output.room()?) {
+                Ok(true) => output.used += DECISION_FRAME,
+                Ok(false) => {}
+                Err(number) => return output.refuse(number),
+            }
+            from += length;
+        }
+        output.flush()?;
+        input.copy_within(from..to, 0);
+        (from, to) = (0, to - from);
+        match stdin.read(&mut input[to..])? {
+            0 if to > 0 => return output.refuse(TRUNCATED),
+            0 => return Ok(()),
+            more => to += more,
+        }
+    }
+}

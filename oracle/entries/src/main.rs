@@ -1,0 +1,251 @@
+//! The port's entries beside the Rust, on the same bytes: the number returned, all five buffers, and the bytes
+//! around them, after every call.
+//!   entries [STEPS [SEED]]
+//! steps that many times in flights that seek the boundaries, with declined calls and states of all kinds
+//! among them. Exit status 1: something differs, or something was not passed through.
+
+mod buffers;
+
+use buffers::{Call, Sides};
+use flights::{Both, Coverage, Pilot, Setup, break_config, break_fence, damage};
+use frames::{
+    CONFIG, DECISION, STATE, STATE_FRAME, State, TELEMETRY, TELEMETRY_FRAME, put_frame, read_fence,
+    read_frame,
+};
+use random::Random;
+
+struct Driver {
+    random: Random,
+    sides: Sides,
+    coverage: Coverage,
+    declined: u64,
+    several: u64,
+    odd_states: u64,
+}
+
+impl Driver {
+    /// One flight, from a fresh state.
+    fn fly(&mut self, steps: usize) -> Result<(), String> {
+        let setup = Setup::random(&mut self.random);
+        let mut both = Both::new(&setup.config, &setup.fence).expect("an accepted configuration");
+        let mut pilot = Pilot::new(&mut self.random);
+        let mut call = Call {
+            config: setup.config.to_vec(),
+            fence: setup.fence.clone(),
+            state: self.fresh()?,
+            ..Call::default()
+        };
+        for _ in 0..steps {
+            let old = both.state();
+            let t = pilot.next(&mut self.random, &setup, &old);
+            call.telemetry = vec![0; TELEMETRY_FRAME];
+            put_frame(TELEMETRY, &t, &mut call.telemetry);
+            let room = 95 + self.random.below(3) * 20;
+            call.output = (0..room).map(|k| k as u8 ^ 0x5A).collect();
+            if self.random.chance(3) {
+                self.decline(&call)?;
+            }
+            if self.random.chance(8) {
+                self.odd_state(&call)?;
+            }
+            let decision = both.step(&call.telemetry);
+            let number = self.sides.step(&mut call)?;
+            assert_eq!(number, 0, "the Rust's entry declined a step of a flight");
+            assert_eq!(
+                call.output[..95],
+                decision,
+                "the Rust's entry and the Rust differ"
+            );
+            assert_eq!(
+                call.state,
+                both.state_frame(),
+                "the Rust's entry and the Rust differ"
+            );
+            let d = read_frame(DECISION, &decision).expect("a Decision");
+            self.coverage.step(&setup, &old, &t, &d, &both.state());
+        }
+        Ok(())
+    }
+
+    /// A fresh state from a slice of some length.
+    fn fresh(&mut self) -> Result<Vec<u8>, String> {
+        let len = self.random.one_of(&[0, 1, 185, 186, 187, 250]);
+        let mut state: Vec<u8> = (0..len).map(|_| self.random.u32() as u8).collect();
+        let number = self.sides.fresh(&mut state)?;
+        self.coverage.add("fresh", format!("{number}"));
+        let mut state = vec![0x11; STATE_FRAME];
+        self.sides.fresh(&mut state)?;
+        Ok(state)
+    }
+
+    /// A call beside the flight with one fault or several, mostly declined.
+    fn decline(&mut self, sound: &Call) -> Result<(), String> {
+        let random = &mut self.random;
+        let mut call = sound.clone();
+        let faults = 1 + random.below(3);
+        for _ in 0..faults {
+            match random.below(10) {
+                0 => damage(random, &mut call.config),
+                1 => damage(random, &mut call.fence),
+                2 | 3 => damage(random, &mut call.state),
+                4 | 5 => damage(random, &mut call.telemetry),
+                6 => call.output.truncate(random.below(96)),
+                7 => call.fence = break_fence(random),
+                8 => {
+                    if let Ok(config) = call.config.as_mut_slice().try_into() {
+                        break_config(random, config);
+                    }
+                }
+                _ => std::mem::swap(&mut call.telemetry, &mut call.state),
+            }
+        }
+        let given = call.clone();
+        let number = self.sides.step(&mut call)?;
+        if number != 0 {
+            assert_eq!(
+                given.state, call.state,
+                "the Rust's entry wrote to a declined state"
+            );
+            assert_eq!(
+                given.output, call.output,
+                "the Rust's entry wrote to a declined output"
+            );
+            self.declined += 1;
+            self.several += (faults > 1) as u64;
+        }
+        self.coverage
+            .add("number", format!("{number} {}", part(&given, number)));
+        Ok(())
+    }
+
+    /// Two steps from a state that no flight may have reached.
+    fn odd_state(&mut self, sound: &Call) -> Result<(), String> {
+        let random = &mut self.random;
+        let mut call = sound.clone();
+        for _ in 0..1 + random.below(12) {
+            // The 27 timers, the latches, stages and streaks, the stored sample.
+            let now = u32::from_le_bytes([
+                call.telemetry[4],
+                call.telemetry[5],
+                call.telemetry[6],
+                call.telemetry[7],
+            ]);
+            let ms = random.one_of(&[now, now.wrapping_sub(5000), now.wrapping_add(1), 0, 1 << 31]);
+            let at = 6 + 5 * random.below(24);
+            match random.below(8) {
+                0..=2 => put_option(&mut call.state[at..at + 5], Some(ms)),
+                3 => put_option(&mut call.state[at..at + 5], None),
+                4 => put_option(&mut call.state[175..180], Some(ms)),
+                5 => put_option(&mut call.state[175..180], None),
+                6 => call.state[174] = random.one_of(&[0, 2, 3, 4, 254, 255]),
+                _ => {
+                    let byte = random.one_of(&[4, 5, 126, 132, 133, 134, 184, 185]);
+                    call.state[byte] = random.below(5) as u8;
+                }
+            }
+        }
+        for _ in 0..2 {
+            let given = call.clone();
+            let number = self.sides.step(&mut call)?;
+            self.odd_states += (number == 0) as u64;
+            self.coverage
+                .add("number", format!("{number} {}", part(&given, number)));
+        }
+        Ok(())
+    }
+
+    /// The numbers that have to be met, each with the buffer that it is about.
+    fn missing(&self) -> Vec<String> {
+        let mut wanted: Vec<String> = Vec::new();
+        for part in ["configuration", "state", "telemetry"] {
+            wanted.extend((1..5).map(|number| format!("{number} {part}")));
+        }
+        wanted.extend((1..4).map(|number| format!("{number} fence")));
+        wanted.push("5 output".into());
+        wanted.extend((10..19).map(|number| format!("{number} fence rules")));
+        wanted.extend((20..29).map(|number| format!("{number} configuration rules")));
+        let missing = wanted
+            .into_iter()
+            .filter(|which| !self.coverage.has("number", which));
+        let mut missing: Vec<String> = missing.map(|which| format!("number: {which}")).collect();
+        for number in ["0", "5"] {
+            if !self.coverage.has("fresh", number) {
+                missing.push(format!("fresh: {number}"));
+            }
+        }
+        missing
+    }
+}
+
+fn put_option(to: &mut [u8], value: Option<u32>) {
+    to.fill(0);
+    if let Some(ms) = value {
+        to[0] = 1;
+        to[1..].copy_from_slice(&ms.to_le_bytes());
+    }
+}
+
+/// What the number is about.
+fn part(call: &Call, number: u32) -> &'static str {
+    if number == 0 {
+        ""
+    } else if read_frame::<failsafe_open::Config>(CONFIG, &call.config).is_err() {
+        "configuration"
+    } else if read_fence(&call.fence).is_err() {
+        "fence"
+    } else if number >= 20 {
+        "configuration rules"
+    } else if number >= 10 {
+        "fence rules"
+    } else if State::read_frame(&call.state).is_err() {
+        "state"
+    } else if number == 5 {
+        "output"
+    } else {
+        "telemetry"
+    }
+}
+
+fn main() {
+    let mut arguments = std::env::args().skip(1).map(|word| word.parse::<u64>());
+    let (steps, seed) = (
+        arguments.next().unwrap_or(Ok(100_000)),
+        arguments.next().unwrap_or(Ok(1)),
+    );
+    let (Ok(steps), Ok(seed)) = (steps, seed) else {
+        eprintln!("usage: entries [STEPS [SEED]]");
+        std::process::exit(2);
+    };
+    const { assert!(STATE == 5) }
+    println!("seed {seed}, {steps} steps");
+    let mut driver = Driver {
+        random: Random::new(seed),
+        sides: Sides::new(),
+        coverage: Coverage::default(),
+        declined: 0,
+        several: 0,
+        odd_states: 0,
+    };
+    while driver.coverage.steps < steps {
+        let left = (steps - driver.coverage.steps) as usize;
+        let most = 100 + driver.random.below(400);
+        if let Err(told) = driver.fly(left.min(most)) {
+            println!(
+                "after {} steps of seed {seed}:\n{told}differs",
+                driver.coverage.steps
+            );
+            std::process::exit(1);
+        }
+    }
+    driver.coverage.report();
+    println!(
+        "{} steps, {} declined calls ({} with several faults), {} steps from states that no flight left: nothing differs",
+        driver.coverage.steps, driver.declined, driver.several, driver.odd_states
+    );
+    let mut missing = driver.missing();
+    missing.extend(driver.coverage.missing());
+    if !missing.is_empty() {
+        println!("not passed through: {}", missing.join(", "));
+        std::process::exit(1);
+    }
+}

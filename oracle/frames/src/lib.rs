@@ -1,0 +1,28 @@
+//! The frames of document 01 in plain Rust, over the Rust's own types, with nothing on the heap; and the
+//! two entries over them, to hold the port's entries to.
+//!
+//! The frames are there for both builds of the Rust: failsafe-core, which is the source as it is, and
+//! failsafe-open, the same source with its fields public, without which no state can be read or written.
+
+mod bytes;
+mod codec;
+mod entry;
+mod state;
+
+pub use bytes::{
+    BAD_LENGTH, BAD_VALUE, Field, NO_ROOM, QUIET_NAN, TRUNCATED, WRONG_KIND, body, put_frame,
+    read_frame, write_frame,
+};
+pub use codec::{
+    CONFIG, Corners, DECISION, FENCE, FenceSent, REFUSAL, STATE, TELEMETRY, fence_core, fence_open,
+    put_refusal, read_fence, write_fence,
+};
+pub use entry::{config_error_core, config_error_open, fresh_entry, step_entry};
+pub use state::State;
+
+/// Bytes of whole frames.
+pub const CONFIG_FRAME: usize = 246;
+pub const TELEMETRY_FRAME: usize = 106;
+pub const DECISION_FRAME: usize = 95;
+pub const STATE_FRAME: usize = 186;
+pub const REFUSAL_FRAME: usize = 6;

@@ -1,0 +1,189 @@
+//! Document 01's table of refusals and its order, case by case, of the plain Rust entries.
+
+use frames::{DECISION_FRAME, STATE_FRAME, fresh_entry, put_frame, step_entry};
+
+#[derive(Clone)]
+struct Call {
+    config: Vec<u8>,
+    fence: Vec<u8>,
+    state: Vec<u8>,
+    telemetry: Vec<u8>,
+    output: Vec<u8>,
+}
+
+/// The defaults, a fresh state, an all-absent telemetry at 0.
+fn sound() -> Call {
+    let mut config = vec![0; 246];
+    put_frame(1, &failsafe_open::Config::default(), &mut config);
+    let mut fence = vec![43, 0, 2, 0, 4];
+    for x in [
+        5f32, 120.0, -500.0, -500.0, -500.0, 500.0, 500.0, 500.0, 500.0, -500.0,
+    ] {
+        fence.extend(x.to_le_bytes());
+    }
+    let mut state = vec![0; STATE_FRAME];
+    assert_eq!(fresh_entry(&mut state), 0);
+    let mut telemetry = vec![0; 106];
+    telemetry[..4].copy_from_slice(&[104, 0, 3, 0]);
+    Call {
+        config,
+        fence,
+        state,
+        telemetry,
+        output: vec![0xEE; 100],
+    }
+}
+
+/// The number for a sound call after a change; a declined call leaves state and output.
+fn number(change: impl Fn(&mut Call)) -> u32 {
+    let mut call = sound();
+    change(&mut call);
+    let given = call.clone();
+    let number = step_entry(
+        &call.config,
+        &call.fence,
+        &mut call.state,
+        &call.telemetry,
+        &mut call.output,
+    );
+    if number != 0 {
+        assert_eq!((&call.state, &call.output), (&given.state, &given.output));
+    } else {
+        assert_eq!(
+            call.output[DECISION_FRAME..],
+            given.output[DECISION_FRAME..]
+        );
+    }
+    number
+}
+
+#[test]
+fn a_sound_call() {
+    assert_eq!(number(|_| {}), 0);
+}
+
+#[test]
+fn within_a_frame() {
+    // Under 2 bytes, or fewer than 2 + length.
+    assert_eq!(number(|c| c.telemetry.clear()), 1);
+    assert_eq!(number(|c| c.telemetry.truncate(1)), 1);
+    assert_eq!(number(|c| c.telemetry.truncate(105)), 1);
+    // Length under 2, before the kind; its bytes are left over.
+    assert_eq!(number(|c| c.telemetry[0] = 1), 3);
+    assert_eq!(number(|c| c.telemetry[..3].copy_from_slice(&[0, 0, 9])), 3);
+    // Not the kind due, also with bytes left over, and before 3 and 4.
+    assert_eq!(number(|c| c.telemetry[2] = 4), 2);
+    assert_eq!(number(|c| c.telemetry[3] = 1), 2);
+    assert_eq!(number(|c| (c.telemetry[2], c.telemetry[0]) = (4, 50)), 2);
+    assert_eq!(number(|c| (c.telemetry[2], c.telemetry[8]) = (4, 2)), 2);
+    // A length that is not the kind's, or bytes left over, before 4.
+    assert_eq!(number(|c| c.telemetry[0] = 103), 3);
+    assert_eq!(number(|c| c.telemetry.push(0)), 3);
+    assert_eq!(number(|c| (c.telemetry[8] = 2, c.telemetry.push(0)).1), 3);
+    assert_eq!(number(|c| (c.telemetry[0] = 105, c.telemetry.push(0)).1), 3);
+    // 1 before all else.
+    assert_eq!(number(|c| (c.telemetry[2], c.telemetry[1]) = (4, 1)), 1);
+}
+
+#[test]
+fn values() {
+    // A flag of 2; an absent value that is not zero, inner flags too; an enum beyond its last.
+    assert_eq!(number(|c| c.telemetry[8] = 2), 4);
+    assert_eq!(number(|c| c.telemetry[9] = 1), 4);
+    assert_eq!(number(|c| c.telemetry[43] = 1), 4);
+    assert_eq!(number(|c| (c.telemetry[37], c.telemetry[42]) = (1, 3)), 4);
+    assert_eq!(number(|c| (c.telemetry[37], c.telemetry[42]) = (1, 2)), 0);
+    assert_eq!(number(|c| c.config[9] = 2), 4);
+    // The state's own rules.
+    assert_eq!(number(|c| c.state[132] = 3), 0);
+    assert_eq!(number(|c| c.state[132] = 4), 4);
+    assert_eq!(number(|c| c.state[184] = 2), 0);
+    assert_eq!(number(|c| c.state[184] = 3), 4);
+    assert_eq!(number(|c| c.state[174] = 255), 0);
+    assert_eq!(number(|c| c.state[133] = 5), 4);
+    assert_eq!(number(|c| c.state[134] = 19), 4);
+    let stored = |c: &mut Call, at: usize, x: f32| {
+        c.state[145] = 1;
+        c.state[at..at + 4].copy_from_slice(&x.to_le_bytes());
+    };
+    for at in (150..174).step_by(4) {
+        assert_eq!(number(|c| stored(c, at, 1.0)), 0);
+        assert_eq!(number(|c| stored(c, at, f32::NAN)), 4);
+        assert_eq!(number(|c| stored(c, at, f32::NEG_INFINITY)), 4);
+    }
+}
+
+#[test]
+fn fences() {
+    // A body without its count; a count and a length that disagree; counts with the matching length.
+    assert_eq!(number(|c| c.fence = vec![2, 0, 2, 0]), 3);
+    assert_eq!(number(|c| c.fence[4] = 3), 3);
+    for (count, wanted) in [(0, 10), (2, 10), (17, 11), (255, 11)] {
+        let sent = |c: &mut Call| {
+            let length = 11 + 8 * count as u16;
+            c.fence.resize(2 + length as usize, 0);
+            c.fence[..2].copy_from_slice(&length.to_le_bytes());
+            c.fence[4] = count;
+        };
+        assert_eq!(number(sent), wanted);
+    }
+}
+
+#[test]
+fn across_frames() {
+    let bad_config = |c: &mut Call| c.config[9] = 2;
+    let bad_fence = |c: &mut Call| c.fence[2] = 9;
+    let bad_rules = |c: &mut Call| c.fence[8] = 0x7F;
+    let bad_cells = |c: &mut Call| c.config[4] = 0;
+    let bad_state = |c: &mut Call| c.state[0] = 0;
+    let bad_telemetry = |c: &mut Call| c.telemetry[1] = 9;
+    let bad_output = |c: &mut Call| c.output.truncate(94);
+    let changes: [(&dyn Fn(&mut Call), u32); 7] = [
+        (&bad_config, 4),
+        (&bad_fence, 2),
+        (&bad_rules, 18),
+        (&bad_cells, 25),
+        (&bad_state, 3),
+        (&bad_telemetry, 1),
+        (&bad_output, 5),
+    ];
+    for (k, (first, wanted)) in changes.iter().enumerate() {
+        for (later, _) in &changes[k..] {
+            let both = |c: &mut Call| {
+                later(c);
+                first(c);
+            };
+            assert_eq!(number(both), *wanted, "fault {k} comes first");
+        }
+    }
+}
+
+#[test]
+fn lengths_of_state_and_output() {
+    assert_eq!(number(|c| c.state.push(0)), 3);
+    assert_eq!(number(|c| c.output.truncate(95)), 0);
+    assert_eq!(number(|c| c.output.truncate(94)), 5);
+    for (len, wanted) in [(0, 5), (185, 5), (186, 0), (190, 0)] {
+        let mut state = vec![0xEE; len];
+        assert_eq!(fresh_entry(&mut state), wanted);
+        let from = if wanted == 0 { STATE_FRAME } else { 0 };
+        assert!(state[from..].iter().all(|&byte| byte == 0xEE));
+    }
+}
+
+#[test]
+fn written_nans() {
+    // k_wind is looked at by no rule, and makes the energies NaN.
+    let mut call = sound();
+    let at = 10 + 4 * (54 - 3);
+    call.config[at..at + 4].copy_from_slice(&0xFFC0_1234u32.to_le_bytes());
+    let number = step_entry(
+        &call.config,
+        &call.fence,
+        &mut call.state,
+        &call.telemetry,
+        &mut call.output,
+    );
+    assert_eq!(number, 0);
+    assert_eq!(call.output[66..70], [0, 0, 0xC0, 0x7F]);
+}

@@ -1,0 +1,50 @@
+//! The port's two entries, as C sees them: linked from libfailsafe.a, or, with the feature `standin`, played by the
+//! plain Rust entries.
+
+#[cfg(feature = "standin")]
+mod standin;
+
+unsafe extern "C" {
+    fn failsafe_step(
+        config: *const u8,
+        config_len: usize,
+        fence: *const u8,
+        fence_len: usize,
+        state: *mut u8,
+        state_len: usize,
+        telemetry: *const u8,
+        telemetry_len: usize,
+        output: *mut u8,
+        output_len: usize,
+    ) -> u32;
+    fn failsafe_fresh(state: *mut u8, state_len: usize) -> u32;
+}
+
+pub fn step(
+    config: &[u8],
+    fence: &[u8],
+    state: &mut [u8],
+    telemetry: &[u8],
+    output: &mut [u8],
+) -> u32 {
+    // SAFETY: five slices that are alive and do not overlap.
+    unsafe {
+        failsafe_step(
+            config.as_ptr(),
+            config.len(),
+            fence.as_ptr(),
+            fence.len(),
+            state.as_mut_ptr(),
+            state.len(),
+            telemetry.as_ptr(),
+            telemetry.len(),
+            output.as_mut_ptr(),
+            output.len(),
+        )
+    }
+}
+
+pub fn fresh(state: &mut [u8]) -> u32 {
+    // SAFETY: a slice that is alive.
+    unsafe { failsafe_fresh(state.as_mut_ptr(), state.len()) }
+}

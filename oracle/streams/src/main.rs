@@ -1,0 +1,175 @@
+//! Two programs of the same job as `decide`, on the same streams:
+//!   streams PORT RUST [CASES [SEED]]   compares what they write
+//!   streams --write FILE FRAMES        writes one long good stream
+//! Exit status 1: something differs, or something was not passed through.
+
+mod programs;
+
+use std::collections::BTreeMap;
+
+use flights::{Both, Pilot, Setup, break_config, break_fence, damage};
+use frames::{TELEMETRY, TELEMETRY_FRAME, put_frame};
+use programs::Program;
+use random::Random;
+
+/// What document 01 says `decide` writes for the defaults and one all-absent telemetry at 0.
+fn listing() -> Vec<u8> {
+    let mut bytes = vec![0x5D, 0, 4, 0, 4, 9, 3];
+    bytes.extend([0; 9]);
+    bytes.extend([1, 3, 3, 1, 4, 3, 1, 5, 3]);
+    bytes.extend([0; 39]);
+    bytes.extend([0, 0]);
+    bytes.extend([0x55, 0x55, 0x55, 0x40]);
+    bytes.extend([0, 0, 0, 0x80]);
+    bytes.extend([0, 0, 0, 0x41]);
+    bytes.extend([0; 17]);
+    bytes
+}
+
+fn absent() -> Vec<u8> {
+    let mut frame = vec![0; TELEMETRY_FRAME];
+    frame[..4].copy_from_slice(&[104, 0, 3, 0]);
+    frame
+}
+
+/// The frames of a flight: configuration, fence, telemetry.
+fn flight(random: &mut Random, setup: &Setup, steps: usize) -> Vec<Vec<u8>> {
+    let mut all = vec![setup.config.to_vec(), setup.fence.clone()];
+    let mut both = Both::new(&setup.config, &setup.fence).expect("an accepted configuration");
+    let mut pilot = Pilot::new(random);
+    for _ in 0..steps {
+        let t = pilot.next(random, setup, &both.state());
+        let mut frame = vec![0; TELEMETRY_FRAME];
+        put_frame(TELEMETRY, &t, &mut frame);
+        both.step(&frame);
+        all.push(frame);
+    }
+    all
+}
+
+/// A frame of 65,537 bytes.
+fn longest(kind: u16) -> Vec<u8> {
+    let mut frame = vec![0; 65_537];
+    frame[..2].copy_from_slice(&[0xFF, 0xFF]);
+    frame[2..4].copy_from_slice(&kind.to_le_bytes());
+    frame
+}
+
+/// A stream, good or not.
+fn stream(random: &mut Random, case: usize) -> Vec<u8> {
+    let setup = Setup::random(random);
+    let steps = random.one_of(&[0, 1, 3, 40, 800]);
+    let mut all = flight(random, &setup, steps);
+    let at = random.below(all.len());
+    match case % 8 {
+        0 | 1 => {}
+        2 => damage(random, &mut all[at]),
+        3 => all.truncate(random.below(3)),
+        4 => {
+            let mut config = setup.config;
+            break_config(random, &mut config);
+            all[0] = config.to_vec();
+            if random.chance(2) {
+                all[1] = break_fence(random);
+            }
+        }
+        5 => all[1] = break_fence(random),
+        6 => {
+            let kind = random.one_of(&[1, 2, 3, 4, 5, 255]);
+            all.insert(at, longest(kind));
+        }
+        _ => {
+            let bytes = all.concat();
+            return bytes[..random.below(bytes.len() + 1)].to_vec();
+        }
+    }
+    all.concat()
+}
+
+/// What a stream of answers ends with: a refusal's number, or 0.
+fn ending(answers: &[u8]) -> u16 {
+    let at = answers.len() - answers.len() % 95;
+    match &answers[at..] {
+        [4, 0, 255, 0, low, high] => u16::from_le_bytes([*low, *high]),
+        _ => 0,
+    }
+}
+
+fn compare(port: &Program, rust: &Program, cases: usize, seed: u64) -> Result<String, String> {
+    let mut random = Random::new(seed);
+    let defaults = Setup::defaults();
+    let input = [defaults.config.to_vec(), defaults.fence, absent()].concat();
+    for program in [rust, port] {
+        if program.answer(&mut random, &input)? != listing() {
+            return Err(format!("{}: not document 01's 95 bytes", program.name()));
+        }
+        program.answers_before_more(&input, &listing())?;
+        program.ends_unread(&input, &absent())?;
+    }
+    let mut endings: BTreeMap<u16, usize> = BTreeMap::new();
+    let mut written = 0;
+    for case in 0..cases {
+        let input = stream(&mut random, case);
+        let (ours, theirs) = (
+            rust.answer(&mut random, &input)?,
+            port.answer(&mut random, &input)?,
+        );
+        if ours != theirs {
+            let at = ours.iter().zip(&theirs).position(|(a, b)| a != b);
+            let at = at.unwrap_or(ours.len().min(theirs.len()));
+            let kept = std::env::temp_dir().join("decide-differs");
+            let kept = std::fs::write(&kept, &input).map(|()| kept.display().to_string());
+            return Err(format!(
+                "case {case} of seed {seed}: {} bytes in; the Rust wrote {} bytes, the port {}; they differ at {at}; input kept in {}",
+                input.len(),
+                ours.len(),
+                theirs.len(),
+                kept.unwrap_or_else(|error| error.to_string())
+            ));
+        }
+        *endings.entry(ending(&ours)).or_default() += 1;
+        written += ours.len();
+    }
+    let told: Vec<String> = endings
+        .iter()
+        .map(|(number, count)| format!("{number}: {count}"))
+        .collect();
+    println!("ended with: {}", told.join(", "));
+    for number in [0, 1, 2, 3, 4, 11, 16] {
+        if !endings.contains_key(&number) {
+            return Err(format!("no stream ended with {number}"));
+        }
+    }
+    Ok(format!(
+        "document 01's 95 bytes; {cases} streams, {written} bytes written alike"
+    ))
+}
+
+fn main() {
+    let words: Vec<String> = std::env::args().skip(1).collect();
+    let words: Vec<&str> = words.iter().map(String::as_str).collect();
+    let done = match words.as_slice() {
+        ["--write", file, frames] => {
+            let frames = frames.parse().expect("a count of frames");
+            let all = flight(&mut Random::new(5), &Setup::defaults(), frames);
+            std::fs::write(file, all.concat())
+                .map(|()| String::new())
+                .map_err(|e| e.to_string())
+        }
+        [port, rust, rest @ ..] => {
+            let number =
+                |k: usize, or: u64| rest.get(k).map_or(or, |x| x.parse().expect("a number"));
+            let (cases, seed) = (number(0, 240), number(1, 1));
+            println!("seed {seed}, {cases} streams");
+            compare(&Program::at(port), &Program::at(rust), cases as usize, seed)
+        }
+        _ => Err("usage: streams PORT RUST [CASES [SEED]] | streams --write FILE FRAMES".into()),
+    };
+    match done {
+        Ok(told) => println!("{told}"),
+        Err(told) => {
+            println!("{told}");
+            std::process::exit(1);
+        }
+    }
+}

@@ -1,0 +1,71 @@
+#!/usr/bin/env bash
+# tools/frames.py: packs the sample flight into the kept frames, shows the kept Decisions as the kept text, and says
+# what is wrong with bad input. Where the crate decide is there, the sample's Decisions are made anew by it.
+set -u
+top=$(cd "$(dirname "${BASH_SOURCE[0]}")/../.." && pwd)
+cd "$top" || exit 1
+build=$top/build/tools
+mkdir -p "$build"
+failed=0
+
+fail() {
+    echo "FAILED: $1"
+    failed=1
+}
+
+tools/frames.py pack samples/flight.json "$build/flight.frames" || fail "the sample does not pack"
+cmp "$build/flight.frames" samples/flight.frames || fail "the sample packs into other frames"
+tools/frames.py show samples/decisions.frames --input samples/flight.json >"$build/decisions.txt" || fail "the Decisions are not shown"
+diff "$build/decisions.txt" samples/decisions.txt || fail "the Decisions are shown otherwise"
+tools/frames.py show samples/flight.frames >"$build/flight.txt" || fail "the sample's frames are not shown"
+[ "$(wc -l <"$build/flight.txt")" -eq $(($(wc -l <samples/decisions.txt) + 2)) ] || fail "not a line for each frame"
+for seen in Warn Hold ReturnToLaunch Land; do
+    grep -q " ms $seen " samples/decisions.txt || fail "the sample does not pass through $seen"
+done
+
+# Document 01's input: the defaults and one all-absent telemetry.
+echo '{"telemetry": [{"now_ms": 0}]}' >"$build/absent.json"
+tools/frames.py pack "$build/absent.json" "$build/absent.frames" || fail "an all-absent telemetry does not pack"
+tail -c 106 "$build/absent.frames" | cmp -s - <(printf '\150\0\3\0' && head -c 102 /dev/zero) || fail "an all-absent telemetry has other bytes"
+
+# Each: what is bad, what the message has to say.
+bad() { # COMMAND TEXT MESSAGE
+    printf "$2" >"$build/bad"
+    if tools/frames.py "$1" "$build/bad" >"$build/out" 2>"$build/err"; then
+        fail "taken, though it is bad: $2"
+    elif ! grep -qF -- "$3" "$build/err"; then
+        fail "$2: it says $(cat "$build/err") and not: $3"
+    fi
+}
+bad pack '{' 'line 1, column 2'
+bad pack '[]' 'flight: an object is wanted'
+bad pack '{"telemetry": [{}]}' 'telemetry[0].now_ms: a whole number from 0 to 4294967295 is wanted'
+bad pack '{"telemetry": [{"now_ms": 1, "gps": {"fix": "Fix4D"}}]}' 'telemetry[0].gps.fix: "Fix4D" is none of None, Fix2D, Fix3D'
+bad pack '{"telemetry": [{"now_ms": 1, "armed": 1}]}' 'telemetry[0].armed: true or false is wanted'
+bad pack '{"telemetry": [{"now_ms": 1, "position": {"pos": [1, 2]}}]}' 'telemetry[0].position.pos: three numbers'
+bad pack '{"config": {"v_maxx": 3}}' 'config.v_maxx: there is no such field'
+bad pack '{"config": {"v_max": 1e39}}' 'config.v_max: 1e+39 is beyond'
+bad pack '{"config": {"cell_count": 256}}' 'config.cell_count: a whole number from 0 to 255'
+bad pack '{"fence": {"corners": [[1, 2], [3]]}}' 'fence.corners[1]: two numbers'
+bad show '\1' 'byte 0: the last frame is cut off (refusal 1)'
+bad show '\6\0\4\0' 'byte 0: the last frame has 2 of 6 bytes (refusal 1)'
+bad show '\1\0\0' 'byte 0: a length of 1, which is under 2 (refusal 3)'
+bad show '\2\0\7\0' 'byte 0: there is no kind 7 (refusal 2)'
+bad show '\2\0\4\0' 'byte 0: Decision: a body of 0 bytes is too short (refusal 3)'
+bad show '\5\0\377\0\1\0\0' 'byte 0: Refusal: 1 bytes are left over (refusal 3)'
+tools/frames.py show "$build/none" >/dev/null 2>"$build/err"
+[ $? -eq 1 ] || fail "a file that is not there is no error"
+tools/frames.py >/dev/null 2>&1
+[ $? -eq 2 ] || fail "no words are no error"
+
+if grep -q '^decide:' crates.txt; then
+    rt check decide >"$build/check.out" 2>&1 || { cat "$build/check.out" && exit 1; }
+    target/bin/decide <samples/flight.frames | cmp - samples/decisions.frames || fail "decide makes other Decisions of the sample"
+fi
+if rust=$(oracle/run.sh --path decide 2>/dev/null) && streams=$(oracle/run.sh --path streams 2>/dev/null); then
+    "$rust" <samples/flight.frames | cmp - samples/decisions.frames || fail "the Rust makes other Decisions of the sample"
+    "$streams" --write "$build/defaults.frames" 0 >/dev/null
+    head -c -106 "$build/absent.frames" | cmp - "$build/defaults.frames" || fail "the defaults packed are not the Rust's"
+fi
+[ "$failed" -eq 0 ] && echo "the sample's $(wc -l <samples/decisions.txt) Decisions and 18 bad inputs"
+exit "$failed"

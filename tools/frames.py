@@ -1,0 +1,496 @@
+#!/usr/bin/env python3
+"""Frames of the flight supervisor, as bytes and as text.
+
+  frames.py pack FLIGHT.json [FILE]     packs a flight's configuration, fence and telemetry into frames,
+                                        as `decide` reads them (FILE: where to; default: standard output)
+  frames.py show [FILE] [--input FILE]  shows frames as text, a line for each (FILE: default standard input;
+                                        --input: the frames or the flight that were stepped: the n-th Decision
+                                        is then shown with the time of the n-th telemetry)
+
+A flight is an object with these members, each of which may be left out:
+  "config"     fields of Config that differ from the defaults, as {"recovery_hold_ms": 6000}
+  "fence"      {"min_alt_m": 5, "max_alt_m": 120, "corners": [[north, east], ...]}; left out: the default fence
+  "telemetry"  a list of readings; each has "now_ms", and what is left out of it is absent:
+     "position"          {"pos": [n, e, d], "vel": [n, e, d]}
+     "gps"               {"fix": "None" | "Fix2D" | "Fix3D", "sats": 14, "hdop": 0.9}
+     "battery"           {"voltage_v": 16.1, "percent": 80, "remaining_wh": 32}
+     "gcs_heartbeat_ms"  the heartbeat's stamp
+     "armed", "rc_ok", "ekf_ok"   true or false
+     "landed"            "Undefined", "OnGround", "InAir", "Takeoff" or "Landing"
+  A stamp is "now_ms" unless "t_ms" says otherwise, within "position" and "gps"; elsewhere a value with a stamp of
+  its own is {"t_ms": 900, "value": true}. NaN, Infinity and -Infinity are numbers here.
+
+Exit status 1: bad input, with what is wrong and where. 2: bad usage.
+"""
+import json
+import struct
+import sys
+
+CONFIG, FENCE, TELEMETRY, DECISION, STATE, REFUSAL = 1, 2, 3, 4, 5, 255
+KINDS = {CONFIG: "Config", FENCE: "Fence", TELEMETRY: "Telemetry", DECISION: "Decision", STATE: "State", REFUSAL: "Refusal"}
+ACTIONS = ["Nominal", "Warn", "Hold", "ReturnToLaunch", "Land"]
+REASONS = ["None", "ClockFault", "InvalidInput", "StaleBattery", "GcsLinkLost", "RcLost", "GpsDegraded", "GpsLost",
+           "EkfUnhealthy", "PositionInvalid", "FenceApproach", "FenceBreach", "AltitudeMax", "AltitudeMin", "BatteryWarn",
+           "BatteryLow", "BatteryCritical", "EnergyRtlMarginal", "EnergyRtlInfeasible"]
+FIXES = ["None", "Fix2D", "Fix3D"]
+LANDED = ["Undefined", "OnGround", "InAir", "Takeoff", "Landing"]
+REFUSALS = {
+    1: "the frame is cut off", 2: "not the kind that is due", 3: "a wrong length", 4: "a value out of range",
+    5: "too little room", 10: "TooFewVertices", 11: "TooManyVertices", 12: "NonFinite", 13: "OutOfEnvelope",
+    14: "DuplicateVertex", 15: "CollinearEdge", 16: "NotConvex", 17: "AreaTooSmall", 18: "BadAltitudes",
+    20: "HomeOutsideFence", 21: "RtlAltOutsideFence", 22: "NonFiniteParam", 23: "NonPositiveSpeed", 24: "NegativePower",
+    25: "BadCellCount", 26: "BadCapacity", 27: "BadThresholdOrder", 28: "DurationOutOfRange",
+}
+# Config in declared order: its name, its type (u8, f32, flag or u32), its default.
+CONFIG_FIELDS = [
+    ("cell_count", "u8", 4), ("usable_capacity_wh", "f32", 40.0), ("rc_required", "flag", True), ("pos_fresh_ms", "u32", 500),
+    ("gps_fresh_ms", "u32", 1000), ("status_fresh_ms", "u32", 1000), ("battery_fresh_ms", "u32", 2000),
+    ("recovery_hold_ms", "u32", 5000), ("gcs_warn_ms", "u32", 3000), ("gcs_hold_ms", "u32", 5000), ("gcs_rtl_ms", "u32", 15000),
+    ("gcs_clear_ms", "u32", 1500), ("gcs_clear_hold_ms", "u32", 3000), ("rc_lost_set_ms", "u32", 1000),
+    ("rc_lost_clear_ms", "u32", 3000), ("gps_degraded_set_ms", "u32", 2000), ("gps_degraded_clear_ms", "u32", 5000),
+    ("gps_lost_set_ms", "u32", 1500), ("gps_lost_clear_ms", "u32", 5000), ("ekf_unhealthy_set_ms", "u32", 1000),
+    ("ekf_unhealthy_clear_ms", "u32", 5000), ("fence_approach_m", "f32", 10.0), ("fence_approach_clear_m", "f32", 15.0),
+    ("fence_breach_set_ms", "u32", 500), ("fence_breach_clear_m", "f32", 5.0), ("fence_breach_clear_ms", "u32", 5000),
+    ("alt_max_clear_m", "f32", 5.0), ("alt_max_set_ms", "u32", 500), ("alt_max_clear_hold_ms", "u32", 3000),
+    ("alt_min_home_radius_m", "f32", 20.0), ("alt_min_set_ms", "u32", 1000), ("alt_min_clear_m", "f32", 2.0),
+    ("alt_min_clear_ms", "u32", 1000), ("stale_battery_clear_ms", "u32", 3000), ("battery_warn_pct", "f32", 30.0),
+    ("battery_warn_clear_pct", "f32", 33.0), ("battery_warn_set_ms", "u32", 2000), ("battery_warn_clear_ms", "u32", 5000),
+    ("battery_low_pct", "f32", 20.0), ("battery_low_clear_pct", "f32", 23.0), ("battery_low_set_ms", "u32", 2000),
+    ("battery_low_clear_ms", "u32", 5000), ("battery_critical_pct", "f32", 10.0), ("battery_critical_v_per_cell", "f32", 3.3),
+    ("battery_critical_set_ms", "u32", 3000), ("energy_marginal_wh", "f32", 5.0), ("energy_marginal_clear_wh", "f32", 7.0),
+    ("energy_marginal_set_ms", "u32", 2000), ("energy_marginal_clear_ms", "u32", 5000), ("energy_infeasible_set_ms", "u32", 2000),
+    ("invalid_input_clear_ms", "u32", 3000), ("disarm_hold_ms", "u32", 2000), ("v_cruise", "f32", 10.0), ("p_cruise", "f32", 350.0),
+    ("k_wind", "f32", 1.25), ("v_climb", "f32", 2.0), ("p_climb", "f32", 400.0), ("v_desc", "f32", 1.5), ("p_desc", "f32", 300.0),
+    ("h_rtl", "f32", 30.0), ("reserve_wh", "f32", 8.0), ("v_max", "f32", 25.0),
+]
+DEFAULT_CORNERS = [[-500, -500], [-500, 500], [500, 500], [500, -500]]
+TIMERS_FIRST = ["gcs_clear_timer", "rc_clear_timer", "gps_deg_set", "gps_deg_clear", "gps_lost_set", "gps_lost_clear",
+                "ekf_set", "ekf_clear", "fence_breach_set", "fence_breach_clear", "alt_max_set", "alt_max_clear",
+                "alt_min_set", "alt_min_clear", "stale_bat_clear", "bat_warn_set", "bat_warn_clear", "bat_low_set",
+                "bat_low_clear", "bat_crit_set", "energy_marg_set", "energy_marg_clear", "energy_infeas_set", "invalid_clear"]
+
+
+class Bad(Exception):
+    """Bad input: what is wrong, and where."""
+
+
+# ---- packing
+
+
+def members(value, where, known):
+    """The members of an object, none but the known ones."""
+    if not isinstance(value, dict):
+        raise Bad(f"{where}: an object is wanted, not {json.dumps(value)}")
+    for name in value:
+        if name not in known:
+            raise Bad(f"{where}.{name}: there is no such field; there are {', '.join(known)}")
+    return value
+
+
+def u32(value, where, most=0xFFFFFFFF):
+    if isinstance(value, bool) or not isinstance(value, int) or not 0 <= value <= most:
+        raise Bad(f"{where}: a whole number from 0 to {most} is wanted, not {json.dumps(value)}")
+    return value
+
+
+def pack_u8(value, where):
+    return bytes([u32(value, where, 255)])
+
+
+def pack_u32(value, where):
+    return struct.pack("<I", u32(value, where))
+
+
+def pack_f32(value, where):
+    if isinstance(value, bool) or not isinstance(value, (int, float)):
+        raise Bad(f"{where}: a number is wanted, not {json.dumps(value)}")
+    if value != value:
+        return struct.pack("<I", 0x7FC00000)
+    try:
+        return struct.pack("<f", value)
+    except OverflowError:
+        raise Bad(f"{where}: {value} is beyond the largest 32-bit float") from None
+
+
+def pack_flag(value, where):
+    if not isinstance(value, bool):
+        raise Bad(f"{where}: true or false is wanted, not {json.dumps(value)}")
+    return bytes([value])
+
+
+def pack_name(names):
+    def pack(value, where):
+        if value not in names:
+            raise Bad(f"{where}: {json.dumps(value)} is none of {', '.join(names)}")
+        return bytes([names.index(value)])
+
+    return pack
+
+
+def option(value, width, pack, where):
+    """A byte 0 or 1 and then the value; all zero where it is absent."""
+    return bytes(1 + width) if value is None else b"\x01" + pack(value, where)
+
+
+def pack_vec3(value, where):
+    if not isinstance(value, list) or len(value) != 3:
+        raise Bad(f"{where}: three numbers [north, east, down] are wanted, not {json.dumps(value)}")
+    return b"".join(pack_f32(x, f"{where}[{k}]") for k, x in enumerate(value))
+
+
+def stamped(pack, now):
+    """A value alone has the stamp `now`."""
+
+    def whole(value, where):
+        if isinstance(value, dict):
+            value = members(value, where, ["t_ms", "value"])
+            if "value" not in value:
+                raise Bad(f"{where}.value: it is missing")
+            return pack_u32(value.get("t_ms", now), f"{where}.t_ms") + pack(value["value"], f"{where}.value")
+        return struct.pack("<I", now) + pack(value, where)
+
+    return whole
+
+
+def position(now):
+    def pack(value, where):
+        value = members(value, where, ["t_ms", "pos", "vel"])
+        return (pack_u32(value.get("t_ms", now), f"{where}.t_ms")
+                + pack_vec3(value.get("pos"), f"{where}.pos")
+                + pack_vec3(value.get("vel", [0, 0, 0]), f"{where}.vel"))
+
+    return pack
+
+
+def gps(now):
+    def pack(value, where):
+        value = members(value, where, ["t_ms", "fix", "sats", "hdop"])
+        return (pack_u32(value.get("t_ms", now), f"{where}.t_ms")
+                + pack_name(FIXES)(value.get("fix"), f"{where}.fix")
+                + option(value.get("sats"), 1, pack_u8, f"{where}.sats")
+                + option(value.get("hdop"), 4, pack_f32, f"{where}.hdop"))
+
+    return pack
+
+
+def telemetry_body(value, where):
+    known = ["now_ms", "position", "gps", "battery", "gcs_heartbeat_ms", "armed", "landed", "rc_ok", "ekf_ok"]
+    value = members(value, where, known)
+    now = u32(value.get("now_ms"), f"{where}.now_ms")
+    cells = ["voltage_v", "percent", "remaining_wh"]
+    battery = members(value.get("battery", {}), f"{where}.battery", cells)
+    body = struct.pack("<I", now)
+    body += option(value.get("position"), 28, position(now), f"{where}.position")
+    body += option(value.get("gps"), 12, gps(now), f"{where}.gps")
+    for name in cells:
+        body += option(battery.get(name), 8, stamped(pack_f32, now), f"{where}.battery.{name}")
+    body += option(value.get("gcs_heartbeat_ms"), 4, pack_u32, f"{where}.gcs_heartbeat_ms")
+    body += option(value.get("armed"), 5, stamped(pack_flag, now), f"{where}.armed")
+    body += option(value.get("landed"), 5, stamped(pack_name(LANDED), now), f"{where}.landed")
+    body += option(value.get("rc_ok"), 5, stamped(pack_flag, now), f"{where}.rc_ok")
+    body += option(value.get("ekf_ok"), 5, stamped(pack_flag, now), f"{where}.ekf_ok")
+    return body
+
+
+def config_body(value):
+    value = members(value, "config", [name for name, _, _ in CONFIG_FIELDS])
+    pack = {"u8": pack_u8, "u32": pack_u32, "f32": pack_f32, "flag": pack_flag}
+    return b"".join(pack[kind](value.get(name, default), f"config.{name}") for name, kind, default in CONFIG_FIELDS)
+
+
+def fence_body(value):
+    value = members(value, "fence", ["min_alt_m", "max_alt_m", "corners"])
+    corners = value.get("corners", DEFAULT_CORNERS)
+    if not isinstance(corners, list) or len(corners) > 255:
+        raise Bad("fence.corners: a list of at most 255 corners is wanted (a fence has 3 to 16)")
+    body = bytes([len(corners)])
+    body += pack_f32(value.get("min_alt_m", 5), "fence.min_alt_m") + pack_f32(value.get("max_alt_m", 120), "fence.max_alt_m")
+    for k, corner in enumerate(corners):
+        where = f"fence.corners[{k}]"
+        if not isinstance(corner, list) or len(corner) != 2:
+            raise Bad(f"{where}: two numbers [north, east] are wanted, not {json.dumps(corner)}")
+        body += pack_f32(corner[0], f"{where}[0]") + pack_f32(corner[1], f"{where}[1]")
+    return body
+
+
+def frame(kind, body):
+    return struct.pack("<HH", 2 + len(body), kind) + body
+
+
+def pack_flight(flight):
+    flight = members(flight, "flight", ["config", "fence", "telemetry"])
+    readings = flight.get("telemetry", [])
+    if not isinstance(readings, list):
+        raise Bad("telemetry: a list of readings is wanted")
+    frames = [frame(CONFIG, config_body(flight.get("config", {}))), frame(FENCE, fence_body(flight.get("fence", {})))]
+    frames += [frame(TELEMETRY, telemetry_body(value, f"telemetry[{k}]")) for k, value in enumerate(readings)]
+    return b"".join(frames)
+
+
+# ---- showing
+
+
+class Body:
+    """Reads the fields of a body one after the other."""
+
+    def __init__(self, kind, bytes_):
+        self.kind, self.bytes, self.at = kind, bytes_, 0
+
+    def take(self, n):
+        if self.at + n > len(self.bytes):
+            raise Bad(f"{KINDS[self.kind]}: a body of {len(self.bytes)} bytes is too short (refusal 3)")
+        self.at += n
+        return self.bytes[self.at - n:self.at]
+
+    def u8(self):
+        return self.take(1)[0]
+
+    def u32(self):
+        return struct.unpack("<I", self.take(4))[0]
+
+    def f32(self):
+        return struct.unpack("<f", self.take(4))[0]
+
+    def flag(self):
+        at, byte = self.at, self.u8()
+        if byte > 1:
+            raise Bad(f"{KINDS[self.kind]}: the flag at byte {at} of the body is {byte} (refusal 4)")
+        return byte == 1
+
+    def name(self, names):
+        at, byte = self.at, self.u8()
+        if byte >= len(names):
+            raise Bad(f"{KINDS[self.kind]}: byte {at} of the body is {byte}, above {len(names) - 1} (refusal 4)")
+        return names[byte]
+
+    def option(self, width, read):
+        if self.flag():
+            return read()
+        at = self.at
+        if any(self.take(width)):
+            raise Bad(f"{KINDS[self.kind]}: the absent value at byte {at} of the body is not zero (refusal 4)")
+        return None
+
+    def vec3(self):
+        return [self.f32(), self.f32(), self.f32()]
+
+    def end(self):
+        if self.at < len(self.bytes):
+            raise Bad(f"{KINDS[self.kind]}: {len(self.bytes) - self.at} bytes are left over (refusal 3)")
+
+
+def number(x, unit=""):
+    """A float, short; '-' where it is absent."""
+    return "-" if x is None else f"{x:.6g}{unit}"
+
+
+def numbers(values):
+    return "(" + ", ".join(number(x) for x in values) + ")"
+
+
+def show_config(body):
+    read = {"u8": body.u8, "u32": body.u32, "f32": body.f32, "flag": body.flag}
+    changed = []
+    for name, kind, default in CONFIG_FIELDS:
+        value = read[kind]()
+        if kind == "f32":
+            default = struct.unpack("<f", struct.pack("<f", default))[0]
+        if value != default:
+            changed.append(f"{name} {number(value) if kind == 'f32' else value}")
+    return "Config: the defaults" + (", but for " + ", ".join(changed) if changed else "")
+
+
+def show_fence(body):
+    count, low, high = body.u8(), body.f32(), body.f32()
+    corners = [numbers([body.f32(), body.f32()]) for _ in range(count)]
+    return f"Fence: {number(low)} to {number(high)} m, {count} corners {' '.join(corners)}".rstrip()
+
+
+def show_telemetry(body):
+    now = body.u32()
+    told = [f"Telemetry: now {now}"]
+
+    def stamped_by(read):
+        return lambda: (body.u32(), read())
+
+    def tell(name, reading, text):
+        if reading is not None:
+            age = (now - reading[0]) & 0xFFFFFFFF
+            told.append(f"{name} {text(reading)}" + (f" ({age} ms old)" if age else ""))
+
+    def read_gps():
+        return body.u32(), body.name(FIXES), body.option(1, body.u8), body.option(4, body.f32)
+
+    tell("position", body.option(28, lambda: (body.u32(), body.vec3(), body.vec3())),
+         lambda r: f"{numbers(r[1])} velocity {numbers(r[2])}")
+    tell("gps", body.option(12, read_gps), lambda r: f"{r[1]} sats {'-' if r[2] is None else r[2]} hdop {number(r[3])}")
+    for name in ["voltage_v", "percent", "remaining_wh"]:
+        tell(name, body.option(8, stamped_by(body.f32)), lambda r: number(r[1]))
+    heartbeat = body.option(4, body.u32)
+    tell("heartbeat", None if heartbeat is None else (heartbeat, ""), lambda r: "seen")
+    yes = {True: "yes", False: "no"}
+    tell("armed", body.option(5, stamped_by(body.flag)), lambda r: yes[r[1]])
+    tell("landed", body.option(5, stamped_by(lambda: body.name(LANDED))), lambda r: r[1])
+    tell("rc_ok", body.option(5, stamped_by(body.flag)), lambda r: yes[r[1]])
+    tell("ekf_ok", body.option(5, stamped_by(body.flag)), lambda r: yes[r[1]])
+    return ", ".join(told)
+
+
+def show_decision(body, time):
+    action, reason, requested = body.name(ACTIONS), body.name(REASONS), body.name(ACTIONS)
+    requests = []
+    for _ in range(19):
+        slot = body.option(2, lambda: (body.name(REASONS), body.name(ACTIONS)))
+        if slot is not None:
+            requests.append(f"{slot[0]}:{slot[1]}")
+    valid, fault = body.flag(), body.flag()
+    body.take(12)
+    body.option(4, body.f32)
+    margin = body.option(4, body.f32)
+    short, distance, eligible = body.flag(), body.option(4, body.f32), body.flag()
+    line = f"{time} {action:14} {reason:19} requested {requested:14} position {'valid' if valid else 'none':5} "
+    line += f"distance {number(distance, ' m'):>11} margin {number(margin, ' Wh'):>12}"
+    notes = ["clock fault"] * fault + ["too little to land"] * short + ["may disarm"] * eligible
+    if requests:
+        notes.append("requests " + " ".join(requests))
+    return (line + ("  " + ", ".join(notes) if notes else "")).rstrip()
+
+
+def show_state(body):
+    told = []
+    told += ["battery latch"] * body.flag() + ["energy latch"] * body.flag()
+
+    def timer(name):
+        since = body.option(4, body.u32)
+        if since is not None:
+            told.append(f"{name} since {since}")
+
+    for name in TIMERS_FIRST:
+        timer(name)
+    told += ["invalid input"] * body.flag()
+    timer("rc_lost_set")
+    told.append(f"link stage {body.u8()}")
+    told.append(f"shown {body.name(ACTIONS)} for {body.name(REASONS)}")
+    timer("recovery")
+    timer("disarm hold")
+    stored = body.option(28, lambda: (body.u32(), body.vec3(), body.vec3()))
+    told.append("no stored position" if stored is None else f"stored position {numbers(stored[1])} at {stored[0]}")
+    told.append(f"refused samples {body.u8()}")
+    timer("last_now")
+    told.append(f"epoch_start {body.u32()}")
+    told.append(f"faults in a row {body.u8()}")
+    told.append("begun" if body.flag() else "fresh")
+    return "State: " + ", ".join(told)
+
+
+def split(stream):
+    """The frames of a stream: place, kind, body."""
+    at = 0
+    while at < len(stream):
+        if at + 2 > len(stream):
+            raise Bad(f"byte {at}: the last frame is cut off (refusal 1)")
+        length = struct.unpack_from("<H", stream, at)[0]
+        if at + 2 + length > len(stream):
+            raise Bad(f"byte {at}: the last frame has {len(stream) - at - 2} of {length} bytes (refusal 1)")
+        if length < 2:
+            raise Bad(f"byte {at}: a length of {length}, which is under 2 (refusal 3)")
+        kind = struct.unpack_from("<H", stream, at + 2)[0]
+        if kind not in KINDS:
+            raise Bad(f"byte {at}: there is no kind {kind} (refusal 2)")
+        yield at, kind, stream[at + 4:at + 2 + length]
+        at += 2 + length
+
+
+def show(stream, times):
+    """A line for each frame. A Decision's time is that of its telemetry."""
+    steps = 0
+    for at, kind, bytes_ in split(stream):
+        body = Body(kind, bytes_)
+        try:
+            if kind == DECISION:
+                time = f"{times[steps]:>10} ms" if steps < len(times) else f"step {steps:>5}   "
+                steps += 1
+                line = show_decision(body, time)
+            elif kind == REFUSAL:
+                refusal = struct.unpack("<H", body.take(2))[0]
+                line = f"Refusal {refusal}: {REFUSALS.get(refusal, 'no number of document 01')}"
+            else:
+                shows = {CONFIG: show_config, FENCE: show_fence, TELEMETRY: show_telemetry, STATE: show_state}
+                line = shows[kind](body)
+            body.end()
+        except Bad as bad:
+            raise Bad(f"byte {at}: {bad}") from None
+        print(line)
+
+
+# ---- the command
+
+
+def read_bytes(path):
+    try:
+        if path == "-":
+            return sys.stdin.buffer.read()
+        with open(path, "rb") as file:
+            return file.read()
+    except OSError as error:
+        raise Bad(f"{path}: {error.strerror}") from None
+
+
+def read_flight(path):
+    try:
+        return json.loads(read_bytes(path).decode())
+    except UnicodeDecodeError:
+        raise Bad(f"{path}: not a text file") from None
+    except json.JSONDecodeError as error:
+        raise Bad(f"{path}: line {error.lineno}, column {error.colno}: {error.msg}") from None
+
+
+def times_of(path):
+    """The clock readings of a flight, from its JSON or its frames."""
+    bytes_ = read_bytes(path)
+    if bytes_[:1] in (b"{", b" ", b"\n"):
+        bytes_ = pack_flight(read_flight(path))
+    return [struct.unpack_from("<I", body)[0] for _, kind, body in split(bytes_) if kind == TELEMETRY and len(body) >= 4]
+
+
+def pack_command(words):
+    packed = pack_flight(read_flight(words[0]))
+    if len(words) == 2:
+        with open(words[1], "wb") as file:
+            file.write(packed)
+    else:
+        sys.stdout.buffer.write(packed)
+
+
+def show_command(words):
+    times = []
+    if "--input" in words:
+        at = words.index("--input")
+        times = times_of(words[at + 1])
+        words = words[:at] + words[at + 2:]
+    show(read_bytes(words[0] if words else "-"), times)
+
+
+def main(words):
+    flags = words.count("--input")
+    if words[:1] == ["pack"] and len(words) in (2, 3):
+        command = pack_command
+    elif words[:1] == ["show"] and flags <= 1 and words[-1] != "--input" and len(words) <= 2 + 2 * flags:
+        command = show_command
+    else:
+        print(__doc__, file=sys.stderr)
+        return 2
+    try:
+        command(words[1:])
+        sys.stdout.flush()
+    except Bad as bad:
+        sys.stdout.flush()
+        print(f"frames.py: {bad}", file=sys.stderr)
+        return 1
+    except BrokenPipeError:
+        sys.stderr.close()
+    return 0
+
+
+if __name__ == "__main__":
+    sys.exit(main(sys.argv[1:]))
