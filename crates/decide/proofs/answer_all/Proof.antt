@@ -1,0 +1,56 @@
+-- `decide::answer_all` is safe and ends. The invariant: the output keeps its length. The measure is the count of turns.
+use mathlib.Core.Path.{_≡_, refl}
+use native.Mathlib.Omega.{arith}
+use borrow.Author.Needs.{needs}
+use lib.ListN.{length}
+use Rattle.decide.proofs.answer_all.Statement.{statement}
+use Rattle.decide.proofs.answer_all.Tie as tie
+
+abbrev Inv-loop : tie.InvT-loop
+Inv-loop input output₀ p₀ turns₀ output p turns = length output ≡ length output₀
+
+abbrev μ-loop : tie.MeasureT-loop
+μ-loop input output₀ p₀ turns₀ output p turns = turns
+
+loop-holds : tie.Need-loop-holds Inv-loop μ-loop
+loop-holds c = refl
+
+answer-next-requires : tie.Need-answer-next-requires Inv-loop μ-loop
+answer-next-requires c κs = search needs
+
+sub-turns : tie.Need-sub-turns Inv-loop μ-loop
+sub-turns c = omega arith
+
+loop-less : tie.Need-loop-less Inv-loop μ-loop
+loop-less c = omega arith
+
+loop-again : tie.Need-loop-again Inv-loop μ-loop
+loop-again c = search needs
+
+same-length : tie.Need-same-length Inv-loop μ-loop
+same-length c = search needs
+
+returns : tie.Need-returns Inv-loop μ-loop
+returns c = search needs
+
+same-length-2 : tie.Need-same-length-2 Inv-loop μ-loop
+same-length-2 c = search needs
+
+returns-2 : tie.Need-returns-2 Inv-loop μ-loop
+returns-2 c = search needs
+
+pub answer-all-spec : {M : Type 1} → statement M
+answer-all-spec =
+    tie.close
+    (tie.spec
+    Inv-loop
+    μ-loop
+    loop-holds
+    answer-next-requires
+    sub-turns
+    loop-less
+    loop-again
+    same-length
+    returns
+    same-length-2
+    returns-2)

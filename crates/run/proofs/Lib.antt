@@ -1,0 +1,4 @@
+-- The claim about runs of the entries, and what it takes.
+pub mod Small
+pub mod Typed
+pub mod Run

@@ -1,0 +1,194 @@
+-- Demand 3 for every list of calls of the step entry, by the ladder's claim for every list of steps: the state image after the calls is the state after the steps,
+-- and the record read off the bytes is the record of those steps. Assumes nothing.
+use Prim.Native.Nat.{ℕ, _≤_}
+use mathlib.Core.Bool.{Bool, true, false, cond}
+use mathlib.Core.List.{List, [], _∷_, _++_}
+use mathlib.Core.Logic.{_⊎_, ⊎-elim}
+use mathlib.Core.Path.{_≡_, refl, ap, sym, subst, _∙_}
+use lib.Dec.{eqb, ltb}
+use lib.Ieee.{Float}
+use lib.ListN.{length, drop}
+use borrow.Author.Tests.{eqb-true, eqb-false, eq-eqb}
+use Rattle.types.specs.declared.Action.{Action}
+use Rattle.types.specs.declared.OptionAction.{OptionAction}
+use Rattle.types.specs.declared.Point2.{Point2}
+use Rattle.types.specs.declared.Decision.{Decision}
+use Rattle.types.specs.declared.Telemetry.{Telemetry}
+use Rattle.types.proofs.Slots.{action-of-rank}
+use Rattle.geometry.specs.declared.SideLengths.{SideLengths}
+use Rattle.geometry.specs.Distance.{ringOf, sideLengths, signedDistance, signedDistanceBy}
+use Rattle.geometry.proofs.Lengths.{by-side-lengths}
+use Rattle.config.specs.declared.Config.{Config}
+use Rattle.supervisor.specs.declared.Supervisor.{Supervisor}
+use Rattle.supervisor.specs.Step.{freshSupervisor, step}
+use Rattle.supervisor.specs.Rules.{Rules}
+use Rattle.supervisor.proofs.Rules.{fresh-rules, step-rules}
+use Rattle.wire.specs.Fields.{Bytes, u8At, leBytes, le8, le16}
+use Rattle.wire.specs.Frame.{frameFault, frameHead}
+use Rattle.options.specs.Enums.{actionOrNominal, actionAt, leAction}
+use Rattle.frame_config.specs.declared.ConfigRead.{ConfigRead}
+use Rattle.frame_config.specs.ConfigFrame.{readConfig}
+use Rattle.frame_fence.specs.FenceFrame.{readFence}
+use Rattle.frame_state.specs.declared.StateRead.{StateRead}
+use Rattle.frame_state.specs.StateFrame.{readState, stateFrame, Typed}
+use Rattle.frame_state.proofs.Trips.{value-back}
+use Rattle.frame_telemetry.specs.declared.TelemetryRead.{TelemetryRead}
+use Rattle.frame_telemetry.specs.TelemetryFrame.{telemetryAt, telemetryValid, readTelemetry}
+use Rattle.frame_decision.specs.DecisionFrame.{decisionFrame}
+use Rattle.flight.specs.declared.Flight.{Flight}
+use Rattle.flight.specs.Flight.{orRefused, acceptFlight, refusedFlight, afterConfig, readFlight, stepFlight}
+use Rattle.failsafe.specs.declared.StepFrames.{StepFrames}
+use Rattle.failsafe.specs.Entry.{blankStep, steppedFrames, afterTelemetry, afterState, stepFrames, stepCall}
+use Rattle.ladder.specs.Record.{Line, stateAfter, recordOf, stepsOf}
+use Rattle.ladder.specs.Claim.{ObeysAll}
+use Rattle.ladder.proofs.Run.{ladder-claim}
+use Rattle.run.specs.Run.{Call, stateBytes, answered, UnderOne, fed, recordOfCalls, flight, dist, RunObeys, RunClaim}
+use Rattle.run.proofs.Small.{either}
+use Rattle.run.proofs.Typed.{fresh-typed, step-typed, read-now, read-position}
+
+-- ---- an accepted flight steps with the fence's own distance
+
+flight-lengths : (config fence : List ℕ) → readFlight config fence .lengths ≡ sideLengths (ringOf (readFlight config fence .fence .poly))
+unfolding readFlight acceptFlight refusedFlight
+flight-lengths config fence = at (readConfig config)
+  where
+    at : (r : ConfigRead) → afterConfig r fence .lengths ≡ sideLengths (ringOf (afterConfig r fence .fence .poly))
+    at (ConfigRead.Refused n) = refl
+    at (ConfigRead.Frame cfg) =
+        let read = readFence fence in
+        either
+        (λ b. cond b (acceptFlight cfg read) (refusedFlight (read .refused)) .lengths ≡ sideLengths (ringOf (cond b (acceptFlight cfg read) (refusedFlight (read .refused)) .fence .poly)))
+        refl refl (eqb (read .refused) 0)
+
+flight-distance : (config fence : List ℕ) → signedDistanceBy (ringOf (readFlight config fence .fence .poly)) (readFlight config fence .lengths .m) ≡ signedDistance (ringOf (readFlight config fence .fence .poly))
+flight-distance config fence =
+    let l = ringOf (readFlight config fence .fence .poly) in
+    ap (λ (m : SideLengths). signedDistanceBy l (m .m)) (flight-lengths config fence) ∙ (λ i p. by-side-lengths l p i)
+
+-- ---- numbers
+
+or-zero : (a b : ℕ) → orRefused a b ≡ 0 → (a ≡ 0) × (b ≡ 0)
+or-zero a b h = at (eqb a 0) refl h
+  where
+    at : (t : Bool) → eqb a 0 ≡ t → cond t b a ≡ 0 → (a ≡ 0) × (b ≡ 0)
+    at true e z = (eqb-true a 0 e, z)
+    at false e z = absurd (eqb-false a 0 e z)
+
+-- ---- telemetry that is not refused is read
+
+telemetry-read : (f : Flight) (x : Supervisor) (s : List ℕ) → afterTelemetry (readTelemetry s) f x .refused ≡ 0 → readTelemetry s ≡ TelemetryRead.Frame (telemetryAt s)
+unfolding readTelemetry blankStep
+telemetry-read f x s h = at (eqb (frameFault 3 104 s) 0) (telemetryValid s) refl h
+  where
+    at : (a b : Bool) → eqb (frameFault 3 104 s) 0 ≡ a → afterTelemetry (cond a (cond b (TelemetryRead.Frame (telemetryAt s)) (TelemetryRead.Refused 4)) (TelemetryRead.Refused (frameFault 3 104 s))) f x .refused ≡ 0 → cond a (cond b (TelemetryRead.Frame (telemetryAt s)) (TelemetryRead.Refused 4)) (TelemetryRead.Refused (frameFault 3 104 s)) ≡ TelemetryRead.Frame (telemetryAt s)
+    at true true e z = refl
+    at true false e z = absurd (four z)
+      where
+        four : _≡_ {A = ℕ} 4 0 → ⊥
+        four q = eqb-false 4 0 refl q
+    at false b e z = absurd (eqb-false (frameFault 3 104 s) 0 e z)
+
+-- ---- the action that a Decision's frame shows
+
+action-shown : (d : Decision) (rest : List ℕ) → actionAt (decisionFrame d ++ rest) 4 ≡ d .action
+unfolding actionAt u8At decisionFrame frameHead le16 leBytes leAction le8
+action-shown d rest = ap actionOrNominal (action-of-rank (d .action))
+
+module _ (config fence : List ℕ) (ok : flight config fence .refused ≡ 0) where
+  cfg : Config
+  cfg = flight config fence .cfg
+
+  lo : Float
+  lo = flight config fence .fence .«min_alt_m»
+
+  hi : Float
+  hi = flight config fence .fence .«max_alt_m»
+
+  after : List Telemetry → Supervisor
+  after ts = stateAfter (dist config fence) lo hi cfg ts
+
+  -- the state image, and the record, are those of the steps
+  record Agrees (bytes : List ℕ) (ts : List Telemetry) (lines : List Line) : Type 0 where
+    image : bytes ≡ stateFrame (after ts)
+    typed : Typed (after ts)
+    rules : Rules (after ts)
+    record-is : lines ≡ recordOf (dist config fence) lo hi cfg ts
+
+  -- a call that steps, from a state image that is a state's
+  stepped : (x : Supervisor) (state telemetry : List ℕ) → readState state ≡ StateRead.Frame x → stepFrames (flight config fence) state telemetry .refused ≡ 0 → stepFrames (flight config fence) state telemetry ≡ steppedFrames (step (dist config fence) lo hi cfg x (telemetryAt telemetry))
+  unfolding stepFrames stepFlight cfg lo hi
+  stepped x state telemetry r z =
+      let f = flight config fence in
+      let z′ : afterTelemetry (readTelemetry telemetry) f x .refused ≡ 0 = sym (ap (λ (q : StateRead). afterState q f telemetry .refused) r) ∙ z in
+      ap (λ (q : StateRead). afterState q f telemetry) r
+      ∙ ap (λ (q : TelemetryRead). afterTelemetry q f x) (telemetry-read f x telemetry z′)
+      ∙ ap (λ (d : Point2 → Float). steppedFrames (step d (f .fence .«min_alt_m») (f .fence .«max_alt_m») (f .cfg) x (telemetryAt telemetry))) (flight-distance config fence)
+
+  -- what such a call leaves: the next state's image, and the Decision's action in the output
+  abbrev Leaves : Supervisor → List ℕ → List ℕ → List ℕ → List ℕ → List ℕ → Type 0
+  Leaves x c f state telemetry output =
+      let next = step (dist config fence) lo hi cfg x (telemetryAt telemetry) in
+      stepCall c f state telemetry output .number ≡ 0
+      → (stepCall c f state telemetry output .state ≡ stateFrame (next .supervisor)) × (actionAt (stepCall c f state telemetry output .output) 4 ≡ next .decision .action)
+
+  leaves : (x : Supervisor) (state telemetry output : List ℕ) → readState state ≡ StateRead.Frame x → Leaves x config fence state telemetry output
+  unfolding stepCall
+  leaves x state telemetry output r z =
+      let a = stepFrames (flight config fence) state telemetry in
+      let room : ℕ = cond (ltb (length output) 95) 5 0 in
+      let rest = or-zero (flight config fence .refused) (orRefused (a .refused) room) z in
+      let is = stepped x state telemetry r (or-zero (a .refused) room (rest .1) .0) in (
+        rw (eq-eqb _ _ z) (ap (λ (q : StepFrames). stateFrame (q .supervisor)) is),
+        rw (eq-eqb _ _ z) (action-shown (a .decision) (drop 95 output) ∙ ap (λ (q : StepFrames). q .decision .action) is),
+      )
+
+  leaves-any : (x : Supervisor) (c : Call) (state : List ℕ) → c .config ≡ config → c .fence ≡ fence → readState state ≡ StateRead.Frame x → Leaves x (c .config) (c .fence) state (c .telemetry) (c .output)
+  leaves-any x c state p q r =
+      subst (λ (f : List ℕ). Leaves x (c .config) f state (c .telemetry) (c .output)) (sym q)
+      (subst (λ (d : List ℕ). Leaves x d fence state (c .telemetry) (c .output)) (sym p) (leaves x state (c .telemetry) (c .output) r))
+
+  -- a declined call leaves the state as it was
+  declined : (c : Call) (earlier : List Call) → eqb (answered c earlier .number) 0 ≡ false → answered c earlier .state ≡ stateBytes earlier
+  unfolding stepCall
+  declined c earlier e = rw e
+
+  next : (c : Call) (earlier : List Call) → Bytes (c .telemetry) → ((answered c earlier .number ≡ 0 → ⊥) ⊎ ((c .config ≡ config) × (c .fence ≡ fence))) → Agrees (stateBytes earlier) (fed earlier) (recordOfCalls earlier) → Agrees (stateBytes (c ∷ earlier)) (fed (c ∷ earlier)) (recordOfCalls (c ∷ earlier))
+  unfolding stateBytes fed recordOfCalls stateAfter recordOf after
+  next c earlier bytes under i = at (eqb (answered c earlier .number) 0) refl
+    where
+      t : Telemetry
+      t = telemetryAt (c .telemetry)
+
+      at : (b : Bool) → eqb (answered c earlier .number) 0 ≡ b → Agrees (answered c earlier .state) (cond b (t ∷ fed earlier) (fed earlier)) (cond b (record { fed = t; action = actionAt (answered c earlier .output) 4 } ∷ recordOfCalls earlier) (recordOfCalls earlier))
+      at false e = record { image = declined c earlier e ∙ i .image; typed = i .typed; rules = i .rules; record-is = i .record-is }
+      at true e =
+          let z = eqb-true (answered c earlier .number) 0 e in
+          let one = ⊎-elim (λ n. absurd (n z)) (λ (o : (c .config ≡ config) × (c .fence ≡ fence)). o) under in
+          let x = after (fed earlier) in
+          let r = ap readState (i .image) ∙ value-back x (i .typed) (i .rules) in
+          let l = leaves-any x c (stateBytes earlier) (one .0) (one .1) r z in
+          record {
+            image = l .0;
+            typed = step-typed (dist config fence) lo hi cfg x t (i .typed) (read-now (c .telemetry) bytes) (read-position (c .telemetry) bytes);
+            rules = step-rules (dist config fence) lo hi cfg x t (i .rules);
+            record-is = λ j. record { fed = t; action = l .1 j } ∷ i .record-is j;
+          }
+
+  agrees : (calls : List Call) → UnderOne config fence calls → Agrees (stateBytes calls) (fed calls) (recordOfCalls calls)
+  unfolding stateBytes fed recordOfCalls stateAfter recordOf after
+  agrees [] u = record { image = refl; typed = fresh-typed; rules = fresh-rules; record-is = refl }
+  agrees (c ∷ earlier) u = next c earlier (u .0) (u .1 .0) (agrees earlier (u .1 .1))
+
+-- the theorem
+pub run-claim : RunClaim
+unfolding cfg lo hi after
+run-claim config fence ok calls u =
+    let a = agrees config fence ok calls u in
+    record {
+      ladder =
+          subst
+          (λ (l : List Line). ObeysAll (flight config fence .cfg .«recovery_hold_ms») (stepsOf (dist config fence) (flight config fence .fence .«min_alt_m») (flight config fence .fence .«max_alt_m») (flight config fence .cfg) l))
+          (sym (a .record-is))
+          (ladder-claim (dist config fence) (flight config fence .fence .«min_alt_m») (flight config fence .fence .«max_alt_m») (flight config fence .cfg) (fed calls));
+      accepted = ap readState (a .image) ∙ value-back _ (a .typed) (a .rules);
+    }
