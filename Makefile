@@ -4,10 +4,12 @@
 check:
 	.ci/run
 
-# What takes too long for the gate: the square root of all 2^32 patterns.
+# What takes too long for the gate: the square root of all 2^32 patterns, and ten million steps beside the Rust.
 long:
 	tests/sqrt/run.sh all
+	tests/entries/run.sh 10000000 20261115
 
-# The fixed list of the Rust's answers, made anew (needs the Rust's source: oracle/run.sh says where).
+# The fixed lists of the Rust's answers, made anew (needs the Rust's source: oracle/run.sh says where).
 lists:
 	oracle/run.sh lists crates/replay
+	oracle/run.sh flights crates/replay_flights
