@@ -13,3 +13,4 @@ long:
 lists:
 	oracle/run.sh lists crates/replay
 	oracle/run.sh flights crates/replay_flights
+	oracle/run.sh frame_rows crates/replay_frames

@@ -1,4 +1,5 @@
 -- `stream::begin` meets its contract. Assumes nothing.
+use Rattle.stream.specs.Stream.{begin}
 use borrow.Author.Needs.{needs}
 use Rattle.stream.proofs.begin.Statement.{statement}
 use Rattle.stream.proofs.begin.Tie as tie
@@ -10,6 +11,7 @@ fresh-requires : tie.Need-fresh-requires
 fresh-requires c κs = search needs
 
 returns : tie.Need-returns
+unfolding begin
 returns c = rw (← c .before .refused-flight .ensures, ← c .fresh .ensures)
 
 pub begin-spec : {M : Type 1} → statement M

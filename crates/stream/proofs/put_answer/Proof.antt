@@ -1,4 +1,6 @@
 -- `stream::put_answer` meets its contract. Assumes nothing.
+use Rattle.frame_decision.proofs.Size.{size as decision-size}
+use Rattle.frame_refusal.proofs.Size.{size as refusal-size}
 use Rattle.stream.proofs.Room.{put-all, put-none, put-empty, written-empty}
 use Rattle.stream.specs.Stream.{bytesWritten}
 use borrow.Author.Needs.{needs}
