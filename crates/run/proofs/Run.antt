@@ -8,7 +8,8 @@ use mathlib.Core.Path.{_≡_, refl, ap, sym, subst, _∙_}
 use lib.Dec.{eqb, ltb}
 use lib.Ieee.{Float}
 use lib.ListN.{length, drop}
-use borrow.Author.Tests.{eqb-true, eqb-false, eq-eqb}
+use native.Mathlib.Omega.{arith}
+use borrow.Author.Tests.{eqb-true, eqb-false, eq-eqb, le-ltb}
 use Rattle.types.specs.declared.Action.{Action}
 use Rattle.types.specs.declared.OptionAction.{OptionAction}
 use Rattle.types.specs.declared.Point2.{Point2}
@@ -24,13 +25,14 @@ use Rattle.supervisor.specs.Step.{freshSupervisor, step}
 use Rattle.supervisor.specs.Rules.{Rules}
 use Rattle.supervisor.proofs.Rules.{fresh-rules, step-rules}
 use Rattle.wire.specs.Fields.{Bytes, u8At, leBytes, le8, le16}
-use Rattle.wire.specs.Frame.{frameFault, frameHead}
+use Rattle.wire.specs.Frame.{frameFault, frameHead, roomFault}
 use Rattle.options.specs.Enums.{actionOrNominal, actionAt, leAction}
 use Rattle.frame_config.specs.declared.ConfigRead.{ConfigRead}
 use Rattle.frame_config.specs.ConfigFrame.{readConfig}
 use Rattle.frame_fence.specs.FenceFrame.{readFence}
 use Rattle.frame_state.specs.declared.StateRead.{StateRead}
 use Rattle.frame_state.specs.StateFrame.{readState, stateFrame, Typed}
+use Rattle.frame_state.proofs.Size.{size as state-size}
 use Rattle.frame_state.proofs.Trips.{value-back}
 use Rattle.frame_telemetry.specs.declared.TelemetryRead.{TelemetryRead}
 use Rattle.frame_telemetry.specs.TelemetryFrame.{telemetryAt, telemetryValid, readTelemetry}
@@ -38,7 +40,8 @@ use Rattle.frame_decision.specs.DecisionFrame.{decisionFrame}
 use Rattle.flight.specs.declared.Flight.{Flight}
 use Rattle.flight.specs.Flight.{orRefused, acceptFlight, refusedFlight, afterConfig, readFlight, stepFlight}
 use Rattle.failsafe.specs.declared.StepFrames.{StepFrames}
-use Rattle.failsafe.specs.Entry.{blankStep, steppedFrames, afterTelemetry, afterState, stepFrames, stepCall}
+use Rattle.failsafe.specs.Entry.{blankStep, steppedFrames, afterTelemetry, afterState, stepFrames, stepCall, freshCall}
+use Rattle.failsafe.proofs.Buffers.{state-written}
 use Rattle.ladder.specs.Record.{Line, stateAfter, recordOf, stepsOf}
 use Rattle.ladder.specs.Claim.{ObeysAll}
 use Rattle.ladder.proofs.Run.{ladder-claim}
@@ -192,3 +195,10 @@ run-claim config fence ok calls u =
           (ladder-claim (dist config fence) (flight config fence .fence .«min_alt_m») (flight config fence .fence .«max_alt_m») (flight config fence .cfg) (fed calls));
       accepted = ap readState (a .image) ∙ value-back _ (a .typed) (a .rules);
     }
+
+-- a run begins with what `failsafe_fresh` leaves in a state slice of 186 bytes
+pub fresh-begins : (state : List ℕ) → length state ≡ 186 → (freshCall state .number ≡ 0) × (freshCall state .state ≡ stateBytes [])
+unfolding freshCall roomFault stateBytes
+fresh-begins state h =
+    let s = state-size freshSupervisor in
+    (rw (le-ltb (length state) (length (stateFrame freshSupervisor)) (omega arith)), state-written freshSupervisor state h)
