@@ -2,22 +2,14 @@
 // standard output. The work is in the crate `stream`; here is input and output in blocks. What is proved of these functions
 // is that they are safe and end.
 ghost use Prim.Native.Nat.{_≤_};
+use flight::Flight;
 use libc::STDIN_FILENO;
 use libc::STDOUT_FILENO;
 use stream::Session;
+use supervisor::Supervisor;
 
 // A Decision's bytes: the most that one frame is answered with.
 const ANSWER_BYTES: usize = 95;
-
-// A pass over the bytes that are in: the session, how many were taken, how many are in the output block, whether to go on,
-// and whether a write failed.
-struct Pass {
-    session: Session,
-    at: usize,
-    out: usize,
-    more: bool,
-    failed: bool,
-}
 
 // The lesser of two numbers: it keeps a place within its block, where no contract says that it is.
 fn least(a: usize, b: usize) -> usize
@@ -26,73 +18,146 @@ fn least(a: usize, b: usize) -> usize
     if a < b { a } else { b }
 }
 
-// Writes the output block out where it has no room for one more answer, or where the pass ends.
-fn flush(session: Session, at: usize, out: usize, more: bool, output: &[u8]) -> Pass {
-    let n = least(out, output.len());
-    let room = output.len() - n;
-    if more {
-        if ANSWER_BYTES <= room {
-            return Pass {
-                session: session,
-                at: at,
-                out: n,
-                more: true,
-                failed: false,
-            };
-        }
-    }
-    let ok = io::write_all(STDOUT_FILENO, &output[..n]);
-    Pass {
-        session: session,
-        at: at,
-        out: 0,
-        more: more & ok,
-        failed: !ok,
-    }
+// ---- a kind 1, a kind 2
+
+// The session, how many bytes were taken, the refusal, 0 for none, and whether to go on.
+struct Setup {
+    session: Session,
+    at: usize,
+    refused: u16,
+    more: bool,
 }
 
 // Answers the next whole frame, if there is one.
-fn answer_next(p: Pass, input: &[u8], output: &mut [u8]) -> Pass {
+fn setup_next(p: Setup, input: &[u8]) -> Setup {
     let session = p.session;
     let at = least(p.at, input.len());
-    let size = output.len();
-    let out = least(p.out, size);
     let n = least(stream::whole_frame(&input[at..]), input.len() - at);
     if n == 0 {
-        return flush(session, at, out, false, output);
+        return Setup {
+            session: session,
+            at: at,
+            refused: 0,
+            more: false,
+        };
     }
     let end = at + n;
-    let a = stream::answer_frame(session, &input[at..end]);
+    let a = stream::answer_setup(session, &input[at..end]);
     let next = a.session;
-    let put = stream::put_answer(a, &mut output[out..]);
-    let filled = out + least(put, size - out);
-    let over = stream::is_over(next);
-    flush(next, end, filled, !over, output)
+    Setup {
+        session: next,
+        at: end,
+        refused: a.refused,
+        more: stream::in_setup(next),
+    }
 }
 
-// Answers every whole frame of the input. A frame has at least two bytes, so as many turns as there are bytes are enough.
-fn answer_all(session: Session, input: &[u8], output: &mut [u8]) -> Pass {
-    let mut p = Pass {
+// The two frames that set a flight up.
+fn set_up(session: Session, input: &[u8]) -> Setup {
+    let mut p = Setup {
         session: session,
         at: 0,
-        out: 0,
-        more: true,
-        failed: false,
+        refused: 0,
+        more: stream::in_setup(session),
     };
-    let mut turns = input.len();
+    let mut turns: usize = 2;
     while turns > 0 && p.more {
-        p = answer_next(p, input, output);
+        p = setup_next(p, input);
         turns -= 1;
     }
     p
 }
 
-// The input has ended: what is left makes no whole frame.
-fn finish(session: Session, rest: usize, output: &mut [u8]) {
-    let a = stream::at_end(session, rest);
-    let put = stream::put_answer(a, output);
-    let n = least(put, output.len());
-    io::write_all(STDOUT_FILENO, &output[..n]);
+// ---- kind 3 frames
+
+// The supervisor, how many bytes were taken, how many are in the output block, whether to go on, and whether the session is
+// over: after a refusal, or where a write failed.
+struct Flying {
+    supervisor: Supervisor,
+    at: usize,
+    out: usize,
+    more: bool,
+    over: bool,
+}
+
+// Writes the output block out where it has no room for one more answer, and answers how many bytes are in it then; more than
+// it has where the write failed.
+fn flush_full(out: usize, output: &[u8]) -> usize {
+    let n = least(out, output.len());
+    if ANSWER_BYTES <= output.len() - n {
+        return n;
+    }
+    if io::write_all(STDOUT_FILENO, &output[..n]) {
+        0
+    } else {
+        usize::MAX
+    }
+}
+
+// Answers the next whole frame, if there is one.
+fn fly_next(f: Flight, p: Flying, input: &[u8], output: &mut [u8]) -> Flying {
+    let s = p.supervisor;
+    let at = least(p.at, input.len());
+    let size = output.len();
+    let out = least(p.out, size);
+    let n = least(stream::whole_frame(&input[at..]), input.len() - at);
+    if n == 0 {
+        return Flying {
+            supervisor: s,
+            at: at,
+            out: out,
+            more: false,
+            over: false,
+        };
+    }
+    let end = at + n;
+    let a = stream::fly_frame(f, s, &input[at..end], &mut output[out..]);
+    let next = a.supervisor;
+    let filled = flush_full(out + least(a.put, size - out), output);
+    let over = (a.refused != 0) | (size < filled);
+    Flying {
+        supervisor: next,
+        at: end,
+        out: filled,
+        more: !over,
+        over: over,
+    }
+}
+
+// Answers every whole frame of the input. A frame has at least two bytes, so as many turns as there are bytes are enough.
+fn fly(f: Flight, s: Supervisor, from: usize, input: &[u8], output: &mut [u8]) -> Flying {
+    let mut p = Flying {
+        supervisor: s,
+        at: from,
+        out: 0,
+        more: true,
+        over: false,
+    };
+    let mut turns = input.len();
+    while turns > 0 && p.more {
+        p = fly_next(f, p, input, output);
+        turns -= 1;
+    }
+    p
+}
+
+// ---- input and output
+
+// Writes the first bytes of the output block out; false where there are not so many, or where the write fails.
+fn write_out(out: usize, output: &[u8]) -> bool {
+    if out <= output.len() {
+        io::write_all(STDOUT_FILENO, &output[..out])
+    } else {
+        false
+    }
+}
+
+// Writes a refusal, if there is one.
+fn write_refusal(refused: u16, output: &mut [u8]) {
+    if refused != 0 {
+        let put = stream::put_refusal(refused, output);
+        write_out(put, output);
+    }
 }
 
 // Reads once, behind the `have` bytes that are in, and answers how many are in then: no more than `have` at the end of the
@@ -128,27 +193,61 @@ struct Kept {
     more: bool,
 }
 
+// The session at the end.
+fn ended(session: Session) -> Kept {
+    Kept {
+        session: session,
+        have: 0,
+        more: false,
+    }
+}
+
+// Answers every whole frame of kind 3 from `from` on, writes the answers out and keeps the rest for the next read.
+fn fly_on(session: Session, from: usize, full: usize, input: &mut [u8], output: &mut [u8]) -> Kept {
+    let f = session.flight;
+    let s = session.supervisor;
+    let stop = least(full, input.len());
+    let p = fly(f, s, from, &input[..stop], output);
+    let after = p.supervisor;
+    let ok = write_out(p.out, output);
+    let at = least(p.at, stop);
+    move_front(input, at, stop);
+    let due = session.due;
+    Kept {
+        session: Session {
+            due: due,
+            flight: f,
+            supervisor: after,
+        },
+        have: stop - at,
+        more: ok & !p.over,
+    }
+}
+
 // Reads once, answers what is whole, and keeps the rest for the next read.
 fn read_once(k: Kept, input: &mut [u8], output: &mut [u8]) -> Kept {
     let session = k.session;
     let have = k.have;
     let full = read_more(input, have);
     if full <= have {
-        finish(session, have, output);
-        return Kept {
-            session: session,
-            have: 0,
-            more: false,
-        };
+        write_refusal(stream::at_end(session, have), output);
+        return ended(session);
     }
-    let p = answer_all(session, &input[..full], output);
+    let p = set_up(session, &input[..full]);
     let next = p.session;
+    if p.refused != 0 {
+        write_refusal(p.refused, output);
+        return ended(next);
+    }
+    if stream::in_flight(next) {
+        return fly_on(next, p.at, full, input, output);
+    }
     let at = least(p.at, full);
     move_front(input, at, full);
     Kept {
         session: next,
         have: full - at,
-        more: !stream::is_over(next) & !p.failed,
+        more: true,
     }
 }
 

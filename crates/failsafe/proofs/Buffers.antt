@@ -3,11 +3,11 @@ use Prim.Native.Nat.{ℕ, _≤_}
 use native.Mathlib.Nat.{le-of-eq}
 use native.Mathlib.Omega.{arith}
 use mathlib.Core.Bool.{Bool, true, false, cond}
-use mathlib.Core.List.{List, [], _++_, append-nil}
+use mathlib.Core.List.{List, _++_, append-nil}
 use mathlib.Core.Path.{_≡_, refl, ap, sym, _∙_}
-use lib.Dec.{eqb, ltb}
+use lib.Dec.{eqb}
 use lib.ListN.{length, drop, drop-of-length-le}
-use borrow.Author.Tests.{eqb-true, eqb-false, le-ltb}
+use borrow.Author.Tests.{eqb-true, le-ltb}
 use Rattle.types.specs.declared.Decision.{Decision}
 use Rattle.supervisor.specs.declared.Supervisor.{Supervisor}
 use Rattle.wire.specs.Frame.{frameFault, frameWritten}
@@ -17,17 +17,15 @@ use Rattle.frame_state.specs.StateFrame.{stateAt, stateValid, readState, stateF
 use Rattle.frame_state.proofs.Size.{size as state-size}
 use Rattle.frame_decision.specs.DecisionFrame.{decisionFrame}
 use Rattle.frame_decision.proofs.Size.{size as decision-size}
-use Rattle.flight.specs.declared.Flight.{Flight}
-use Rattle.failsafe.specs.Entry.{blankStep, afterState, stepFrames}
 
--- where neither state nor telemetry is refused, the state slice has 186 bytes
-pub state-bytes : (f : Flight) (state telemetry : List ℕ) → stepFrames f state telemetry .refused ≡ 0 → length state ≡ 186
-unfolding stepFrames readState blankStep
-state-bytes f state telemetry h = at (eqb (frameFault 5 184 state) 0) refl h
+-- a state slice that is read has 186 bytes
+pub state-bytes : (s : Supervisor) (state : List ℕ) → readState state ≡ StateRead.Frame s → length state ≡ 186
+unfolding readState
+state-bytes s state h = at (eqb (frameFault 5 184 state) 0) refl h
   where
-    at : (b : Bool) → eqb (frameFault 5 184 state) 0 ≡ b → afterState (cond b (cond (stateValid state) (StateRead.Frame (stateAt state)) (StateRead.Refused 4)) (StateRead.Refused (frameFault 5 184 state))) f telemetry .refused ≡ 0 → length state ≡ 186
+    at : (b : Bool) → eqb (frameFault 5 184 state) 0 ≡ b → cond b (cond (stateValid state) (StateRead.Frame (stateAt state)) (StateRead.Refused 4)) (StateRead.Refused (frameFault 5 184 state)) ≡ StateRead.Frame s → length state ≡ 186
     at true e r = head-says 5 184 state (eqb-true _ _ e) .1 .1
-    at false e r = absurd (eqb-false _ _ e r)
+    at false e r = let z : _≡_ {A = ℕ} 0 1 = cc in absurd (omega arith)
 
 pub state-written : (x : Supervisor) (state : List ℕ) → length state ≡ 186 → frameWritten (stateFrame x) state ≡ stateFrame x
 unfolding frameWritten

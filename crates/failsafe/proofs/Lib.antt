@@ -1,2 +1,3 @@
 -- The laws that the entries' proofs cite.
 pub mod Buffers
+pub mod Declined

@@ -14,28 +14,7 @@ use Rattle.frame_telemetry.specs.declared.TelemetryRead.{TelemetryRead}
 use Rattle.frame_telemetry.specs.TelemetryFrame.{readTelemetry}
 use Rattle.frame_decision.specs.DecisionFrame.{decisionFrame}
 use Rattle.flight.specs.declared.Flight.{Flight}
-use Rattle.flight.specs.Flight.{orRefused, readFlight, stepFlight, blankDecision}
-use Rattle.failsafe.specs.declared.StepFrames.{StepFrames}
-
--- a refusal; what stands beside it is never used
-unfoldable pub blankStep : ℕ → StepFrames
-blankStep n = record { refused = n; supervisor = freshSupervisor; decision = blankDecision }
-
--- what a step gave
-abbrev pub steppedFrames : Stepped → StepFrames
-steppedFrames next = record { refused = 0; supervisor = next .supervisor; decision = next .decision }
-
--- ".. state, telemetry .."
-abbrev pub afterTelemetry : TelemetryRead → Flight → Supervisor → StepFrames
-afterTelemetry (TelemetryRead.Refused n) f s = blankStep n
-afterTelemetry (TelemetryRead.Frame t) f s = steppedFrames (stepFlight f s t)
-
-abbrev pub afterState : StateRead → Flight → List ℕ → StepFrames
-afterState (StateRead.Refused n) f telemetry = blankStep n
-afterState (StateRead.Frame s) f telemetry = afterTelemetry (readTelemetry telemetry) f s
-
-unfoldable pub stepFrames : Flight → List ℕ → List ℕ → StepFrames
-stepFrames f state telemetry = afterState (readState state) f telemetry
+use Rattle.flight.specs.Flight.{readFlight, stepFlight}
 
 -- a call's number and buffers at its end
 pub record StepCall : Type 0 where
@@ -43,18 +22,33 @@ pub record StepCall : Type 0 where
   pub state : List ℕ
   pub output : List ℕ
 
--- "configuration frame, fence frame, fence rules, configuration rules, state, telemetry, output": the first refusal, with state and output as they were;
--- or 0: "State and the first 95 output bytes are rewritten on success, which returns 0; later output bytes stay."
+-- a refusal, with what document 01 says is "left as it was": state, output
+abbrev pub declined : ℕ → List ℕ → List ℕ → StepCall
+declined n state output = record { number = n; state = state; output = output }
+
+-- "State and the first 95 output bytes are rewritten on success, which returns 0; later output bytes stay."
+abbrev pub succeeded : Stepped → List ℕ → StepCall
+succeeded next output = record { number = 0; state = stateFrame (next .supervisor); output = decisionFrame (next .decision) ++ drop 95 output }
+
+-- ".. output": 5 where it is under 95 bytes
+abbrev pub written : Stepped → List ℕ → List ℕ → StepCall
+written next state output = cond (ltb (length output) 95) (declined 5 state output) (succeeded next output)
+
+-- ".. state, telemetry .."
+abbrev pub afterTelemetry : TelemetryRead → Flight → Supervisor → List ℕ → List ℕ → StepCall
+afterTelemetry (TelemetryRead.Refused n) f s state output = declined n state output
+afterTelemetry (TelemetryRead.Frame t) f s state output = written (stepFlight f s t) state output
+
+abbrev pub afterState : StateRead → Flight → List ℕ → List ℕ → List ℕ → StepCall
+afterState (StateRead.Refused n) f state telemetry output = declined n state output
+afterState (StateRead.Frame s) f state telemetry output = afterTelemetry (readTelemetry telemetry) f s state output
+
+-- "configuration frame, fence frame, fence rules, configuration rules ..": the first refusal
+abbrev pub afterFlight : Flight → List ℕ → List ℕ → List ℕ → StepCall
+afterFlight f state telemetry output = cond (eqb (f .refused) 0) (afterState (readState state) f state telemetry output) (declined (f .refused) state output)
+
 unfoldable pub stepCall : List ℕ → List ℕ → List ℕ → List ℕ → List ℕ → StepCall
-stepCall config fence state telemetry output =
-    let flight = readFlight config fence in
-    let a = stepFrames flight state telemetry in
-    let n = orRefused (flight .refused) (orRefused (a .refused) (cond (ltb (length output) 95) 5 0)) in
-    record {
-      number = n;
-      state = cond (eqb n 0) (stateFrame (a .supervisor)) state;
-      output = cond (eqb n 0) (decisionFrame (a .decision) ++ drop 95 output) output;
-    }
+stepCall config fence state telemetry output = afterFlight (readFlight config fence) state telemetry output
 
 pub record FreshCall : Type 0 where
   pub number : ℕ

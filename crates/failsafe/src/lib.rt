@@ -1,55 +1,67 @@
 // The two entries for the autopilot's C host: include/failsafe.h describes them.
 ghost use mathlib.Core.Path.{_≡_};
-ghost use Rattle.failsafe.specs.Entry.{blankStep, steppedFrames, stepFrames, stepCall, freshCall};
+ghost use lib.ListN.{length};
+ghost use Rattle.flight.specs.Flight.{stepFlight};
+ghost use Rattle.frame_state.specs.StateFrame.{readState};
+ghost use Rattle.frame_telemetry.specs.TelemetryFrame.{readTelemetry};
+ghost use Rattle.failsafe.specs.Entry.{written, afterTelemetry, afterState, stepCall, freshCall};
 use flight::Flight;
 use frame_state::StateRead;
 use frame_telemetry::TelemetryRead;
-use supervisor::Stepped;
 use supervisor::Supervisor;
-use types::Decision;
+use types::Telemetry;
 
-// A step from frames: its refusal, or 0 with the next state and the Decision.
-pub struct StepFrames {
-    pub refused: u16,
-    pub supervisor: Supervisor,
-    pub decision: Decision,
-}
-
-// A refusal; what stands beside it is never used.
-fn blank_step(n: u16) -> StepFrames
-    ensures { λ r. ⌜ r ≡ blankStep n ⌝ }
+// The step, where there is room for its Decision.
+fn step_write(
+    flight: Flight,
+    s: Supervisor,
+    t: Telemetry,
+    state: &mut [u8],
+    output: &mut [u8],
+) -> u32
+    requires { ⌜ length (now state) ≡ 186 ⌝ }
+    ensures { λ r. ⌜ r ≡ written (stepFlight flight s t) (now (state .entry)) (now (output .entry)) .number ⌝ }
+    ensures { λ _. ⌜ now (state .exit) ≡ written (stepFlight flight s t) (now (state .entry)) (now (output .entry)) .state ⌝ }
+    ensures { λ _. ⌜ now (output .exit) ≡ written (stepFlight flight s t) (now (state .entry)) (now (output .entry)) .output ⌝ }
 {
-    let decision = flight::blank_decision();
-    StepFrames {
-        refused: n,
-        supervisor: Supervisor::fresh(),
-        decision: decision,
+    if output.len() < 95 {
+        return 5;
     }
-}
-
-// What a step gave.
-fn stepped_frames(next: Stepped) -> StepFrames
-    ensures { λ r. ⌜ r ≡ steppedFrames next ⌝ }
-{
+    let next = flight::step_flight(flight, s, t);
     let after = next.supervisor;
-    let decision = next.decision;
-    StepFrames {
-        refused: 0,
-        supervisor: after,
-        decision: decision,
+    let d = next.decision;
+    frame_state::write_state(state, after);
+    frame_decision::write_decision(output, d);
+    0
+}
+
+fn step_telemetry(
+    flight: Flight,
+    s: Supervisor,
+    state: &mut [u8],
+    telemetry: &[u8],
+    output: &mut [u8],
+) -> u32
+    requires { ⌜ length (now state) ≡ 186 ⌝ }
+    ensures { λ r. ⌜ r ≡ afterTelemetry (readTelemetry (now (telemetry .entry))) flight s (now (state .entry)) (now (output .entry)) .number ⌝ }
+    ensures { λ _. ⌜ now (state .exit) ≡ afterTelemetry (readTelemetry (now (telemetry .entry))) flight s (now (state .entry)) (now (output .entry)) .state ⌝ }
+    ensures { λ _. ⌜ now (output .exit) ≡ afterTelemetry (readTelemetry (now (telemetry .entry))) flight s (now (state .entry)) (now (output .entry)) .output ⌝ }
+{
+    match frame_telemetry::read_telemetry(telemetry) {
+        TelemetryRead::Refused(n) => n as u32,
+        TelemetryRead::Frame(t) => step_write(flight, s, t, state, output),
     }
 }
 
-// State, then telemetry.
-fn step_frames(flight: Flight, state: &[u8], telemetry: &[u8]) -> StepFrames
-    ensures { λ r. ⌜ r ≡ stepFrames flight (now (state .entry)) (now (telemetry .entry)) ⌝ }
+// State, then telemetry. Each refusal ends the call where it is found, so no blank state or Decision is handed on.
+fn step_state(flight: Flight, state: &mut [u8], telemetry: &[u8], output: &mut [u8]) -> u32
+    ensures { λ r. ⌜ r ≡ afterState (readState (now (state .entry))) flight (now (state .entry)) (now (telemetry .entry)) (now (output .entry)) .number ⌝ }
+    ensures { λ _. ⌜ now (state .exit) ≡ afterState (readState (now (state .entry))) flight (now (state .entry)) (now (telemetry .entry)) (now (output .entry)) .state ⌝ }
+    ensures { λ _. ⌜ now (output .exit) ≡ afterState (readState (now (state .entry))) flight (now (state .entry)) (now (telemetry .entry)) (now (output .entry)) .output ⌝ }
 {
     match frame_state::read_state(state) {
-        StateRead::Refused(n) => blank_step(n),
-        StateRead::Frame(s) => match frame_telemetry::read_telemetry(telemetry) {
-            TelemetryRead::Refused(n) => blank_step(n),
-            TelemetryRead::Frame(t) => stepped_frames(flight::step_flight(flight, s, t)),
-        },
+        StateRead::Refused(n) => n as u32,
+        StateRead::Frame(s) => step_telemetry(flight, s, state, telemetry, output),
     }
 }
 
@@ -69,18 +81,7 @@ pub extern "C" fn failsafe_step(
     if flight.refused != 0 {
         return flight.refused as u32;
     }
-    let a = step_frames(flight, state, telemetry);
-    if a.refused != 0 {
-        return a.refused as u32;
-    }
-    if output.len() < 95 {
-        return 5;
-    }
-    let s = a.supervisor;
-    let d = a.decision;
-    frame_state::write_state(state, s);
-    frame_decision::write_decision(output, d);
-    0
+    step_state(flight, state, telemetry, output)
 }
 
 #[no_mangle]

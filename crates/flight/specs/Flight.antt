@@ -1,11 +1,10 @@
 -- Configuration and fence of a flight. Document 01, 'When a call declines': "Across: configuration frame, fence frame, fence rules,
 -- configuration rules, state, telemetry, output." Assumes nothing.
 use Prim.Native.Nat.{ℕ}
-use mathlib.Core.Bool.{false, cond}
+use mathlib.Core.Bool.{cond}
 use mathlib.Core.List.{List}
 use lib.Dec.{eqb}
 use lib.ListN.{replicate}
-use lib.Ieee.{binary32, ofBits}
 use Rattle.geometry.specs.declared.FenceResult.{FenceResult}
 use Rattle.geometry.specs.Acceptance.{fenceErrorNumber, zeroF, zeroPoint}
 use Rattle.geometry.specs.Distance.{ringOf, sideLengths, signedDistanceBy}
@@ -13,12 +12,7 @@ use Rattle.config.specs.declared.Config.{Config}
 use Rattle.config.specs.declared.ConfigResult.{ConfigResult}
 use Rattle.config.specs.Config.{configErrorNumber, validateConfig}
 use Rattle.config.specs.Default.{defaultConfig}
-use Rattle.types.specs.declared.Action.{Action}
-use Rattle.types.specs.declared.Reason.{Reason}
-use Rattle.types.specs.declared.OptionF32.{OptionF32}
 use Rattle.types.specs.declared.Telemetry.{Telemetry}
-use Rattle.types.specs.declared.Decision.{Decision}
-use Rattle.types.specs.ActiveSet.{emptySet}
 use Rattle.supervisor.specs.declared.Supervisor.{Supervisor}
 use Rattle.supervisor.specs.declared.Stepped.{Stepped}
 use Rattle.supervisor.specs.Step.{step}
@@ -72,26 +66,3 @@ readFlight config fence = afterConfig (readConfig config) fence
 -- one step, with the lengths that the flight holds
 unfoldable pub stepFlight : Flight → Supervisor → Telemetry → Stepped
 stepFlight f s t = step (signedDistanceBy (ringOf (f .fence .poly)) (f .lengths .m)) (f .fence .«min_alt_m») (f .fence .«max_alt_m») (f .cfg) s t
-
--- what stands where no Decision was made
-unfoldable pub blankDecision : Decision
-blankDecision =
-    record {
-      action = Action.Nominal;
-      reason = Reason.None;
-      requested = Action.Nominal;
-      active = emptySet;
-      «position_valid» = false;
-      «clock_fault» = false;
-      energy =
-          record {
-            «rtl_wh» = zeroF;
-            «land_wh» = zeroF;
-            «reserve_wh» = zeroF;
-            «remaining_wh» = OptionF32.None;
-            «margin_wh» = OptionF32.None;
-            «insufficient_for_landing» = false;
-          };
-      «fence_dist_m» = OptionF32.None;
-      «disarm_eligible» = false;
-    }

@@ -1,6 +1,6 @@
 // Configuration and fence of a flight: read, and accepted or refused, in document 01's order.
 ghost use mathlib.Core.Path.{_≡_};
-ghost use Rattle.flight.specs.Flight.{orRefused, fenceNumber, configNumber, refusedFlight, acceptFlight, readFlight, stepFlight, blankDecision};
+ghost use Rattle.flight.specs.Flight.{orRefused, fenceNumber, configNumber, refusedFlight, acceptFlight, readFlight, stepFlight};
 use config::Config;
 use config::ConfigResult;
 use frame_config::ConfigRead;
@@ -11,13 +11,7 @@ use geometry::Geofence;
 use geometry::SideLengths;
 use supervisor::Stepped;
 use supervisor::Supervisor;
-use types::Action;
-use types::ActiveSet;
-use types::Decision;
-use types::EnergyEstimate;
-use types::OptionF32;
 use types::Point2;
-use types::Reason;
 use types::Telemetry;
 
 // A configuration and a fence, with the lengths of the fence's sides: accepted where `refused` is 0, else the number of the
@@ -128,30 +122,4 @@ pub fn step_flight(flight: Flight, s: Supervisor, t: Telemetry) -> Stepped
     let fence = flight.fence;
     let lengths = flight.lengths;
     s.step_by(cfg, fence, lengths, t)
-}
-
-// What stands where no Decision was made: never used.
-pub fn blank_decision() -> Decision
-    ensures { λ r. ⌜ r ≡ blankDecision ⌝ }
-{
-    let active = ActiveSet::new();
-    let energy = EnergyEstimate {
-        rtl_wh: 0.0,
-        land_wh: 0.0,
-        reserve_wh: 0.0,
-        remaining_wh: OptionF32::None,
-        margin_wh: OptionF32::None,
-        insufficient_for_landing: false,
-    };
-    Decision {
-        action: Action::Nominal,
-        reason: Reason::None,
-        requested: Action::Nominal,
-        active: active,
-        position_valid: false,
-        clock_fault: false,
-        energy: energy,
-        fence_dist_m: OptionF32::None,
-        disarm_eligible: false,
-    }
 }

@@ -1,6 +1,6 @@
 -- Demand 3 for every list of calls of the step entry, by the ladder's claim for every list of steps: the state image after the calls is the state after the steps,
 -- and the record read off the bytes is the record of those steps. Assumes nothing.
-use Prim.Native.Nat.{ℕ, _≤_}
+use Prim.Native.Nat.{ℕ}
 use mathlib.Core.Bool.{Bool, true, false, cond}
 use mathlib.Core.List.{List, [], _∷_, _++_}
 use mathlib.Core.Logic.{_⊎_, ⊎-elim}
@@ -10,8 +10,6 @@ use lib.Ieee.{Float}
 use lib.ListN.{length, drop}
 use native.Mathlib.Omega.{arith}
 use borrow.Author.Tests.{eqb-true, eqb-false, eq-eqb, le-ltb}
-use Rattle.types.specs.declared.Action.{Action}
-use Rattle.types.specs.declared.OptionAction.{OptionAction}
 use Rattle.types.specs.declared.Point2.{Point2}
 use Rattle.types.specs.declared.Decision.{Decision}
 use Rattle.types.specs.declared.Telemetry.{Telemetry}
@@ -21,6 +19,7 @@ use Rattle.geometry.specs.Distance.{ringOf, sideLengths, signedDistance, signed
 use Rattle.geometry.proofs.Lengths.{by-side-lengths}
 use Rattle.config.specs.declared.Config.{Config}
 use Rattle.supervisor.specs.declared.Supervisor.{Supervisor}
+use Rattle.supervisor.specs.declared.Stepped.{Stepped}
 use Rattle.supervisor.specs.Step.{freshSupervisor, step}
 use Rattle.supervisor.specs.Rules.{Rules}
 use Rattle.supervisor.proofs.Rules.{fresh-rules, step-rules}
@@ -38,14 +37,14 @@ use Rattle.frame_telemetry.specs.declared.TelemetryRead.{TelemetryRead}
 use Rattle.frame_telemetry.specs.TelemetryFrame.{telemetryAt, telemetryValid, readTelemetry}
 use Rattle.frame_decision.specs.DecisionFrame.{decisionFrame}
 use Rattle.flight.specs.declared.Flight.{Flight}
-use Rattle.flight.specs.Flight.{orRefused, acceptFlight, refusedFlight, afterConfig, readFlight, stepFlight}
-use Rattle.failsafe.specs.declared.StepFrames.{StepFrames}
-use Rattle.failsafe.specs.Entry.{blankStep, steppedFrames, afterTelemetry, afterState, stepFrames, stepCall, freshCall}
+use Rattle.flight.specs.Flight.{acceptFlight, refusedFlight, afterConfig, readFlight, stepFlight}
+use Rattle.failsafe.specs.Entry.{StepCall, declined, succeeded, written, afterTelemetry, afterState, afterFlight, stepCall, freshCall}
 use Rattle.failsafe.proofs.Buffers.{state-written}
+use Rattle.failsafe.proofs.Declined.{declined-keeps}
 use Rattle.ladder.specs.Record.{Line, stateAfter, recordOf, stepsOf}
 use Rattle.ladder.specs.Claim.{ObeysAll}
 use Rattle.ladder.proofs.Run.{ladder-claim}
-use Rattle.run.specs.Run.{Call, stateBytes, answered, UnderOne, fed, recordOfCalls, flight, dist, RunObeys, RunClaim}
+use Rattle.run.specs.Run.{Call, stateBytes, answered, UnderOne, fed, recordOfCalls, flight, dist, RunClaim}
 use Rattle.run.proofs.Small.{either}
 use Rattle.run.proofs.Typed.{fresh-typed, step-typed, read-now, read-position}
 
@@ -68,28 +67,23 @@ flight-distance config fence =
     let l = ringOf (readFlight config fence .fence .poly) in
     ap (λ (m : SideLengths). signedDistanceBy l (m .m)) (flight-lengths config fence) ∙ (λ i p. by-side-lengths l p i)
 
--- ---- numbers
+-- ---- telemetry that is not refused is read, and an output that is not refused has room
 
-or-zero : (a b : ℕ) → orRefused a b ≡ 0 → (a ≡ 0) × (b ≡ 0)
-or-zero a b h = at (eqb a 0) refl h
+telemetry-read : (f : Flight) (x : Supervisor) (s state output : List ℕ) → afterTelemetry (readTelemetry s) f x state output .number ≡ 0 → readTelemetry s ≡ TelemetryRead.Frame (telemetryAt s)
+unfolding readTelemetry
+telemetry-read f x s state output h = at (eqb (frameFault 3 104 s) 0) (telemetryValid s) refl h
   where
-    at : (t : Bool) → eqb a 0 ≡ t → cond t b a ≡ 0 → (a ≡ 0) × (b ≡ 0)
-    at true e z = (eqb-true a 0 e, z)
-    at false e z = absurd (eqb-false a 0 e z)
-
--- ---- telemetry that is not refused is read
-
-telemetry-read : (f : Flight) (x : Supervisor) (s : List ℕ) → afterTelemetry (readTelemetry s) f x .refused ≡ 0 → readTelemetry s ≡ TelemetryRead.Frame (telemetryAt s)
-unfolding readTelemetry blankStep
-telemetry-read f x s h = at (eqb (frameFault 3 104 s) 0) (telemetryValid s) refl h
-  where
-    at : (a b : Bool) → eqb (frameFault 3 104 s) 0 ≡ a → afterTelemetry (cond a (cond b (TelemetryRead.Frame (telemetryAt s)) (TelemetryRead.Refused 4)) (TelemetryRead.Refused (frameFault 3 104 s))) f x .refused ≡ 0 → cond a (cond b (TelemetryRead.Frame (telemetryAt s)) (TelemetryRead.Refused 4)) (TelemetryRead.Refused (frameFault 3 104 s)) ≡ TelemetryRead.Frame (telemetryAt s)
+    at : (a b : Bool) → eqb (frameFault 3 104 s) 0 ≡ a → afterTelemetry (cond a (cond b (TelemetryRead.Frame (telemetryAt s)) (TelemetryRead.Refused 4)) (TelemetryRead.Refused (frameFault 3 104 s))) f x state output .number ≡ 0 → cond a (cond b (TelemetryRead.Frame (telemetryAt s)) (TelemetryRead.Refused 4)) (TelemetryRead.Refused (frameFault 3 104 s)) ≡ TelemetryRead.Frame (telemetryAt s)
     at true true e z = refl
-    at true false e z = absurd (four z)
-      where
-        four : _≡_ {A = ℕ} 4 0 → ⊥
-        four q = eqb-false 4 0 refl q
+    at true false e z = absurd (eqb-false 4 0 refl z)
     at false b e z = absurd (eqb-false (frameFault 3 104 s) 0 e z)
+
+roomy : (next : Stepped) (state output : List ℕ) → written next state output .number ≡ 0 → written next state output ≡ succeeded next output
+roomy next state output z = at (ltb (length output) 95) z
+  where
+    at : (b : Bool) → cond b (declined 5 state output) (succeeded next output) .number ≡ 0 → cond b (declined 5 state output) (succeeded next output) ≡ succeeded next output
+    at true e = absurd (eqb-false 5 0 refl e)
+    at false e = refl
 
 -- ---- the action that a Decision's frame shows
 
@@ -118,14 +112,17 @@ module _ (config fence : List ℕ) (ok : flight config fence .refused ≡ 0) whe
     record-is : lines ≡ recordOf (dist config fence) lo hi cfg ts
 
   -- a call that steps, from a state image that is a state's
-  stepped : (x : Supervisor) (state telemetry : List ℕ) → readState state ≡ StateRead.Frame x → stepFrames (flight config fence) state telemetry .refused ≡ 0 → stepFrames (flight config fence) state telemetry ≡ steppedFrames (step (dist config fence) lo hi cfg x (telemetryAt telemetry))
-  unfolding stepFrames stepFlight cfg lo hi
-  stepped x state telemetry r z =
+  stepped : (x : Supervisor) (state telemetry output : List ℕ) → readState state ≡ StateRead.Frame x → stepCall config fence state telemetry output .number ≡ 0 → stepCall config fence state telemetry output ≡ succeeded (step (dist config fence) lo hi cfg x (telemetryAt telemetry)) output
+  unfolding stepCall stepFlight cfg lo hi
+  stepped x state telemetry output r z =
       let f = flight config fence in
-      let z′ : afterTelemetry (readTelemetry telemetry) f x .refused ≡ 0 = sym (ap (λ (q : StateRead). afterState q f telemetry .refused) r) ∙ z in
-      ap (λ (q : StateRead). afterState q f telemetry) r
-      ∙ ap (λ (q : TelemetryRead). afterTelemetry q f x) (telemetry-read f x telemetry z′)
-      ∙ ap (λ (d : Point2 → Float). steppedFrames (step d (f .fence .«min_alt_m») (f .fence .«max_alt_m») (f .cfg) x (telemetryAt telemetry))) (flight-distance config fence)
+      let next = stepFlight f x (telemetryAt telemetry) in
+      let a : afterFlight f state telemetry output ≡ afterTelemetry (readTelemetry telemetry) f x state output = rw (eq-eqb _ _ ok) (ap (λ (q : StateRead). afterState q f state telemetry output) r) in
+      let b = telemetry-read f x telemetry state output (sym (ap (λ (q : StepCall). q .number) a) ∙ z) in
+      let w : afterFlight f state telemetry output ≡ written next state output = a ∙ ap (λ (q : TelemetryRead). afterTelemetry q f x state output) b in
+      w
+      ∙ roomy next state output (sym (ap (λ (q : StepCall). q .number) w) ∙ z)
+      ∙ ap (λ (d : Point2 → Float). succeeded (step d (f .fence .«min_alt_m») (f .fence .«max_alt_m») (f .cfg) x (telemetryAt telemetry)) output) (flight-distance config fence)
 
   -- what such a call leaves: the next state's image, and the Decision's action in the output
   abbrev Leaves : Supervisor → List ℕ → List ℕ → List ℕ → List ℕ → List ℕ → Type 0
@@ -135,25 +132,17 @@ module _ (config fence : List ℕ) (ok : flight config fence .refused ≡ 0) whe
       → (stepCall c f state telemetry output .state ≡ stateFrame (next .supervisor)) × (actionAt (stepCall c f state telemetry output .output) 4 ≡ next .decision .action)
 
   leaves : (x : Supervisor) (state telemetry output : List ℕ) → readState state ≡ StateRead.Frame x → Leaves x config fence state telemetry output
-  unfolding stepCall
   leaves x state telemetry output r z =
-      let a = stepFrames (flight config fence) state telemetry in
-      let room : ℕ = cond (ltb (length output) 95) 5 0 in
-      let rest = or-zero (flight config fence .refused) (orRefused (a .refused) room) z in
-      let is = stepped x state telemetry r (or-zero (a .refused) room (rest .1) .0) in (
-        rw (eq-eqb _ _ z) (ap (λ (q : StepFrames). stateFrame (q .supervisor)) is),
-        rw (eq-eqb _ _ z) (action-shown (a .decision) (drop 95 output) ∙ ap (λ (q : StepFrames). q .decision .action) is),
+      let is = stepped x state telemetry output r z in
+      let next = step (dist config fence) lo hi cfg x (telemetryAt telemetry) in (
+        ap (λ (q : StepCall). q .state) is,
+        ap (λ (q : StepCall). actionAt (q .output) 4) is ∙ action-shown (next .decision) (drop 95 output),
       )
 
   leaves-any : (x : Supervisor) (c : Call) (state : List ℕ) → c .config ≡ config → c .fence ≡ fence → readState state ≡ StateRead.Frame x → Leaves x (c .config) (c .fence) state (c .telemetry) (c .output)
   leaves-any x c state p q r =
       subst (λ (f : List ℕ). Leaves x (c .config) f state (c .telemetry) (c .output)) (sym q)
       (subst (λ (d : List ℕ). Leaves x d fence state (c .telemetry) (c .output)) (sym p) (leaves x state (c .telemetry) (c .output) r))
-
-  -- a declined call leaves the state as it was
-  declined : (c : Call) (earlier : List Call) → eqb (answered c earlier .number) 0 ≡ false → answered c earlier .state ≡ stateBytes earlier
-  unfolding stepCall
-  declined c earlier e = rw e
 
   next : (c : Call) (earlier : List Call) → Bytes (c .telemetry) → ((answered c earlier .number ≡ 0 → ⊥) ⊎ ((c .config ≡ config) × (c .fence ≡ fence))) → Agrees (stateBytes earlier) (fed earlier) (recordOfCalls earlier) → Agrees (stateBytes (c ∷ earlier)) (fed (c ∷ earlier)) (recordOfCalls (c ∷ earlier))
   unfolding stateBytes fed recordOfCalls stateAfter recordOf after
@@ -163,7 +152,7 @@ module _ (config fence : List ℕ) (ok : flight config fence .refused ≡ 0) whe
       t = telemetryAt (c .telemetry)
 
       at : (b : Bool) → eqb (answered c earlier .number) 0 ≡ b → Agrees (answered c earlier .state) (cond b (t ∷ fed earlier) (fed earlier)) (cond b (record { fed = t; action = actionAt (answered c earlier .output) 4 } ∷ recordOfCalls earlier) (recordOfCalls earlier))
-      at false e = record { image = declined c earlier e ∙ i .image; typed = i .typed; rules = i .rules; record-is = i .record-is }
+      at false e = record { image = declined-keeps (c .config) (c .fence) (stateBytes earlier) (c .telemetry) (c .output) e .0 ∙ i .image; typed = i .typed; rules = i .rules; record-is = i .record-is }
       at true e =
           let z = eqb-true (answered c earlier .number) 0 e in
           let one = ⊎-elim (λ n. absurd (n z)) (λ (o : (c .config ≡ config) × (c .fence ≡ fence)). o) under in

@@ -25,12 +25,3 @@ put-none f out r e n = at (ltb (length out) (length f)) e
     at : (b : Bool) → r ≡ cond b 5 0 → 0 ≡ cond b 0 (length f)
     at true h = refl
     at false h = absurd (n h)
-
--- of no bytes none are put
-pub put-empty : (out : List ℕ) → 0 ≡ putCount [] out
-unfolding putCount
-put-empty out = rw (le-ltb (length out) 0 zero-le)
-
-pub written-empty : (out : List ℕ) → out ≡ frameWritten [] out
-unfolding frameWritten
-written-empty out = rw (le-ltb (length out) 0 zero-le)

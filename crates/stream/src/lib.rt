@@ -3,12 +3,14 @@ ghost use mathlib.Core.Path.{_≡_};
 ghost use Prim.Native.Nat.{_≤_};
 ghost use lib.ListN.{length};
 ghost use Rattle.wire.specs.Frame.{frameWritten};
-ghost use Rattle.stream.specs.Stream.{wholeFrame, begin, blankAnswer, refusal, inFlight, withConfig, decided, answerConfig, answerFence, answerTelemetry, answerFrame, atEnd, isOver, bytesWritten, putCount};
+ghost use Rattle.frame_decision.specs.DecisionFrame.{decisionFrame};
+ghost use Rattle.frame_refusal.specs.RefusalFrame.{refusalFrame};
+ghost use Rattle.frame_telemetry.specs.TelemetryFrame.{readTelemetry};
+ghost use Rattle.stream.specs.Stream.{wholeFrame, begin, silent, refusal, flying, withConfig, answerConfig, answerFence, answerSetup, putCount, bytesFor, flown, inSetup, inFlight, atEnd};
 use config::Config;
 use flight::Flight;
 use frame_config::ConfigRead;
 use frame_telemetry::TelemetryRead;
-use supervisor::Stepped;
 use supervisor::Supervisor;
 use types::Decision;
 
@@ -26,18 +28,17 @@ pub struct Session {
     pub supervisor: Supervisor,
 }
 
-// What is written for a frame: nothing, a refusal or a Decision.
-pub enum Written {
-    Nothing,
-    Refusal(u16),
-    Decision,
-}
-
-// The session after a frame, and what is written. The Decision is read only where one is written.
+// The session after a frame of kind 1 or 2, and the refusal that is written, 0 for none.
 pub struct Answer {
     pub session: Session,
-    pub written: Written,
-    pub decision: Decision,
+    pub refused: u16,
+}
+
+// The supervisor after a frame of kind 3, the refusal, 0 for none, and how many bytes were written.
+pub struct Flown {
+    pub refused: u16,
+    pub supervisor: Supervisor,
+    pub put: usize,
 }
 
 // The bytes of the whole frame at the start of s; 0 where there is none yet.
@@ -59,14 +60,14 @@ fn widened(n: u16) -> usize
     n as usize
 }
 
-fn blank_answer(session: Session, written: Written) -> Answer
-    ensures { λ r. ⌜ r ≡ blankAnswer session written ⌝ }
+// ---- a kind 1, a kind 2
+
+fn silent(session: Session) -> Answer
+    ensures { λ r. ⌜ r ≡ silent session ⌝ }
 {
-    let decision = flight::blank_decision();
     Answer {
         session: session,
-        written: written,
-        decision: decision,
+        refused: 0,
     }
 }
 
@@ -79,7 +80,10 @@ fn refusal(n: u16) -> Answer
         flight: flight::refused_flight(n),
         supervisor: Supervisor::fresh(),
     };
-    blank_answer(session, Written::Refusal(n))
+    Answer {
+        session: session,
+        refused: n,
+    }
 }
 
 // Before the first frame.
@@ -117,12 +121,12 @@ fn answer_config(frame: &[u8]) -> Answer
 {
     match frame_config::read_config(frame) {
         ConfigRead::Refused(n) => refusal(n),
-        ConfigRead::Frame(cfg) => blank_answer(with_config(cfg), Written::Nothing),
+        ConfigRead::Frame(cfg) => silent(with_config(cfg)),
     }
 }
 
-fn in_flight(f: Flight) -> Session
-    ensures { λ r. ⌜ r ≡ inFlight f ⌝ }
+fn flying(f: Flight) -> Session
+    ensures { λ r. ⌜ r ≡ flying f ⌝ }
 {
     Session {
         due: Due::Telemetry,
@@ -145,99 +149,112 @@ fn answer_fence(cfg: Config, frame: &[u8]) -> Answer
     if m != 0 {
         return refusal(m);
     }
-    blank_answer(in_flight(f), Written::Nothing)
+    silent(flying(f))
 }
 
-fn decided(f: Flight, next: Stepped) -> Answer
-    ensures { λ r. ⌜ r ≡ decided f next ⌝ }
-{
-    let s = next.supervisor;
-    let d = next.decision;
-    let session = Session {
-        due: Due::Telemetry,
-        flight: f,
-        supervisor: s,
-    };
-    Answer {
-        session: session,
-        written: Written::Decision,
-        decision: d,
-    }
-}
-
-fn answer_telemetry(f: Flight, s: Supervisor, frame: &[u8]) -> Answer
-    ensures { λ r. ⌜ r ≡ answerTelemetry f s (now (frame .entry)) ⌝ }
-{
-    match frame_telemetry::read_telemetry(frame) {
-        TelemetryRead::Refused(n) => refusal(n),
-        TelemetryRead::Frame(t) => decided(f, flight::step_flight(f, s, t)),
-    }
-}
-
-// One whole frame.
-pub fn answer_frame(session: Session, frame: &[u8]) -> Answer
-    ensures { λ r. ⌜ r ≡ answerFrame session (now (frame .entry)) ⌝ }
+// One whole frame of kind 1 or 2. Where neither is due, nothing happens.
+pub fn answer_setup(session: Session, frame: &[u8]) -> Answer
+    ensures { λ r. ⌜ r ≡ answerSetup session (now (frame .entry)) ⌝ }
 {
     let due = session.due;
     let f = session.flight;
-    let s = session.supervisor;
     let cfg = f.cfg;
     match due {
-        Due::Telemetry => answer_telemetry(f, s, frame),
         Due::Config => answer_config(frame),
         Due::Fence => answer_fence(cfg, frame),
-        Due::Nothing => blank_answer(session, Written::Nothing),
+        Due::Telemetry => silent(session),
+        Due::Nothing => silent(session),
     }
 }
 
-// Whether the session has ended.
-pub fn is_over(session: Session) -> bool
-    ensures { λ r. ⌜ r ≡ isOver (session .due) ⌝ }
+// ---- kind 3 frames
+
+// Writes a Decision at the start of out, and says how many bytes that is. Without room nothing is written.
+fn put_decision(d: Decision, out: &mut [u8]) -> usize
+    ensures { λ r. ⌜ r ≡ putCount (decisionFrame d) (now (out .entry)) ⌝ }
+    ensures { λ _. ⌜ now (out .exit) ≡ frameWritten (decisionFrame d) (now (out .entry)) ⌝ }
+{
+    if frame_decision::write_decision(out, d) == 0 {
+        95
+    } else {
+        0
+    }
+}
+
+// The same for a refusal.
+pub fn put_refusal(n: u16, out: &mut [u8]) -> usize
+    ensures { λ r. ⌜ r ≡ putCount (refusalFrame n) (now (out .entry)) ⌝ }
+    ensures { λ _. ⌜ now (out .exit) ≡ frameWritten (refusalFrame n) (now (out .entry)) ⌝ }
+{
+    if frame_refusal::write_refusal(out, n) == 0 {
+        6
+    } else {
+        0
+    }
+}
+
+// One whole frame of kind 3. The flight is handed in anew each time, so that a loop over frames copies only the supervisor.
+pub fn fly_frame(f: Flight, s: Supervisor, frame: &[u8], out: &mut [u8]) -> Flown
+    ensures { λ r. ⌜ r ≡ flown (readTelemetry (now (frame .entry))) f s (now (out .entry)) ⌝ }
+    ensures { λ _. ⌜ now (out .exit) ≡ frameWritten (bytesFor (readTelemetry (now (frame .entry))) f s) (now (out .entry)) ⌝ }
+{
+    match frame_telemetry::read_telemetry(frame) {
+        TelemetryRead::Refused(n) => Flown {
+            refused: n,
+            supervisor: s,
+            put: put_refusal(n, out),
+        },
+        TelemetryRead::Frame(t) => {
+            let next = flight::step_flight(f, s, t);
+            let after = next.supervisor;
+            let d = next.decision;
+            Flown {
+                refused: 0,
+                supervisor: after,
+                put: put_decision(d, out),
+            }
+        }
+    }
+}
+
+// ---- the end
+
+// Whether a kind 1 or 2 is due.
+pub fn in_setup(session: Session) -> bool
+    ensures { λ r. ⌜ r ≡ inSetup (session .due) ⌝ }
 {
     let due = session.due;
     match due {
-        Due::Nothing => true,
-        Due::Config => false,
-        Due::Fence => false,
+        Due::Config => true,
+        Due::Fence => true,
         Due::Telemetry => false,
+        Due::Nothing => false,
     }
 }
 
-// The input has ended with so many bytes that make no whole frame: at a frame boundary nothing is written.
-pub fn at_end(session: Session, rest: usize) -> Answer
+// Whether a kind 3 is due.
+pub fn in_flight(session: Session) -> bool
+    ensures { λ r. ⌜ r ≡ inFlight (session .due) ⌝ }
+{
+    let due = session.due;
+    match due {
+        Due::Config => false,
+        Due::Fence => false,
+        Due::Telemetry => true,
+        Due::Nothing => false,
+    }
+}
+
+// The refusal where the input ends with so many bytes that make no whole frame: at a frame boundary none.
+pub fn at_end(session: Session, rest: usize) -> u16
     ensures { λ r. ⌜ r ≡ atEnd session rest ⌝ }
 {
     if rest == 0 {
-        return blank_answer(session, Written::Nothing);
+        return 0;
     }
-    if is_over(session) {
-        return blank_answer(session, Written::Nothing);
-    }
-    refusal(1)
-}
-
-// Writes what a frame is answered with at the start of out, and says how many bytes that is. Without room nothing is written.
-pub fn put_answer(a: Answer, out: &mut [u8]) -> usize
-    ensures { λ r. ⌜ r ≡ putCount (bytesWritten a) (now (out .entry)) ⌝ }
-    ensures { λ _. ⌜ now (out .exit) ≡ frameWritten (bytesWritten a) (now (out .entry)) ⌝ }
-{
-    let written = a.written;
-    let d = a.decision;
-    match written {
-        Written::Decision => {
-            if frame_decision::write_decision(out, d) == 0 {
-                95
-            } else {
-                0
-            }
-        }
-        Written::Refusal(n) => {
-            if frame_refusal::write_refusal(out, n) == 0 {
-                6
-            } else {
-                0
-            }
-        }
-        Written::Nothing => 0,
+    if in_setup(session) | in_flight(session) {
+        1
+    } else {
+        0
     }
 }

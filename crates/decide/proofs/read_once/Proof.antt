@@ -1,16 +1,33 @@
 -- `decide::read_once` is safe and ends: what is in is within the input's length, and the input keeps its length.
 use mathlib.Core.Path.{_∙_}
-use lib.ListN.{length-take}
 use native.Mathlib.Omega.{arith}
+use lib.ListN.{length-take}
 use borrow.Author.Needs.{needs}
 use Rattle.decide.proofs.read_once.Statement.{statement}
 use Rattle.decide.proofs.read_once.Tie as tie
+use Rattle.decide.proofs.read_once.Reads as reads
+use Rattle.decide.proofs.read_once.Lts as lts
+use Rattle.decide.proofs.ended.Reads as ended-reads
+use Rattle.decide.proofs.fly_on.Reads as fly-on-reads
+use Rattle.decide.proofs.least.Reads as least-reads
+use Rattle.decide.proofs.move_front.Reads as move-front-reads
+use Rattle.decide.proofs.read_more.Reads as read-more-reads
+use Rattle.decide.proofs.set_up.Reads as set-up-reads
+use Rattle.decide.proofs.write_refusal.Reads as write-refusal-reads
+use Rattle.stream.proofs.at_end.Reads as at-end-reads
+use Rattle.stream.proofs.in_flight.Reads as in-flight-reads
 
 read-more-requires : tie.Need-read-more-requires
 read-more-requires c κs = search needs
 
-finish-requires : tie.Need-finish-requires
-finish-requires c κs = search needs
+at-end-requires : tie.Need-at-end-requires
+at-end-requires c κs = search needs
+
+write-refusal-requires : tie.Need-write-refusal-requires
+write-refusal-requires c κs = search needs
+
+ended-requires : tie.Need-ended-requires
+ended-requires c κs = search needs
 
 same-length : tie.Need-same-length
 same-length c = search needs
@@ -21,29 +38,23 @@ same-length-2 c = search needs
 returns : tie.Need-returns
 returns c = search needs
 
-slice-reshare-prefix-answer-all : tie.Need-slice-reshare-prefix-answer-all
-slice-reshare-prefix-answer-all c = search needs
+slice-reshare-prefix-set-up : tie.Need-slice-reshare-prefix-set-up
+slice-reshare-prefix-set-up c = search needs
 
-slice-aggregate-answer-all : tie.Need-slice-aggregate-answer-all
-slice-aggregate-answer-all c = simp length-take (omega (arith, c .before .before .before .before .read-more .ensures, c .before .before .before .before .read-more .kept .0))
+slice-aggregate-set-up : tie.Need-slice-aggregate-set-up
+slice-aggregate-set-up c = simp length-take (omega (arith, c .before .before .before .before .read-more .ensures, c .before .before .before .before .read-more .kept .0))
 
-answer-all-requires : tie.Need-answer-all-requires
-answer-all-requires c κs = search needs
+set-up-requires : tie.Need-set-up-requires
+set-up-requires c κs = search needs
 
-least-requires : tie.Need-least-requires
-least-requires c κs = search needs
+write-refusal-requires-2 : tie.Need-write-refusal-requires-2
+write-refusal-requires-2 c κs = search needs
 
-move-front-requires : tie.Need-move-front-requires
-move-front-requires c κs = search needs
-
-sub-t23 : tie.Need-sub-t23
-sub-t23 c = search needs
-
-is-over-requires : tie.Need-is-over-requires
-is-over-requires c κs = search needs
+ended-requires-2 : tie.Need-ended-requires-2
+ended-requires-2 c κs = search needs
 
 same-length-3 : tie.Need-same-length-3
-same-length-3 c = c .before .before .before .before .move-front .kept .0 ∙ c .before .before .before .before .before .before .before .before .before .before .before .before .before .before .before .before .read-more .kept .0
+same-length-3 c = c .before .before .before .before .before .before .before .before .before .before .before .before .before .read-more .kept .0
 
 same-length-4 : tie.Need-same-length-4
 same-length-4 c = search needs
@@ -51,22 +62,62 @@ same-length-4 c = search needs
 returns-2 : tie.Need-returns-2
 returns-2 c = search needs
 
+in-flight-requires : tie.Need-in-flight-requires
+in-flight-requires c κs = search needs
+
+fly-on-requires : tie.Need-fly-on-requires
+fly-on-requires c κs = search needs
+
+same-length-5 : tie.Need-same-length-5
+same-length-5 c = c .before .before .before .before .fly-on .kept .1 .1 .1 .0 ∙ c .before .before .before .before .before .before .before .before .before .before .before .before .before .before .before .before .before .read-more .kept .0
+
+same-length-6 : tie.Need-same-length-6
+same-length-6 c = search needs
+
+returns-3 : tie.Need-returns-3
+returns-3 c = search needs
+
+least-requires : tie.Need-least-requires
+least-requires c κs = search needs
+
+move-front-requires : tie.Need-move-front-requires
+move-front-requires c κs = search needs
+
+sub-t30 : tie.Need-sub-t30
+sub-t30 c = search needs
+
+same-length-7 : tie.Need-same-length-7
+same-length-7 c = search needs
+
+returns-4 : tie.Need-returns-4
+returns-4 c = search needs
+
 pub read-once-spec : {M : Type 1} → statement M
 read-once-spec =
     tie.close
     (tie.spec
     read-more-requires
-    finish-requires
+    at-end-requires
+    write-refusal-requires
+    ended-requires
     same-length
     same-length-2
     returns
-    slice-reshare-prefix-answer-all
-    slice-aggregate-answer-all
-    answer-all-requires
-    least-requires
-    move-front-requires
-    sub-t23
-    is-over-requires
+    slice-reshare-prefix-set-up
+    slice-aggregate-set-up
+    set-up-requires
+    write-refusal-requires-2
+    ended-requires-2
     same-length-3
     same-length-4
-    returns-2)
+    returns-2
+    in-flight-requires
+    fly-on-requires
+    same-length-5
+    same-length-6
+    returns-3
+    least-requires
+    move-front-requires
+    sub-t30
+    same-length-7
+    returns-4)

@@ -1,8 +1,13 @@
--- `stream::answer_config` meets its contract. Assumes nothing.
 use Rattle.stream.specs.Stream.{answerConfig}
 use borrow.Author.Needs.{needs}
 use Rattle.stream.proofs.answer_config.Statement.{statement}
 use Rattle.stream.proofs.answer_config.Tie as tie
+use Rattle.stream.proofs.answer_config.Reads as reads
+use Rattle.stream.proofs.answer_config.Lts as lts
+use Rattle.frame_config.proofs.read_config.Reads as read-config-reads
+use Rattle.stream.proofs.refusal.Reads as refusal-reads
+use Rattle.stream.proofs.silent.Reads as silent-reads
+use Rattle.stream.proofs.with_config.Reads as with-config-reads
 
 read-config-requires : tie.Need-read-config-requires
 read-config-requires c κs = search needs
@@ -19,8 +24,8 @@ enum-known-cfg c = search needs
 with-config-requires : tie.Need-with-config-requires
 with-config-requires c κs = search needs
 
-blank-answer-requires : tie.Need-blank-answer-requires
-blank-answer-requires c κs = search needs
+silent-requires : tie.Need-silent-requires
+silent-requires c κs = search needs
 
 returns : tie.Need-returns
 unfolding answerConfig
@@ -28,7 +33,7 @@ returns c = rw (← c .before .before .before .before .read-config .ensures, c .
 
 returns-2 : tie.Need-returns-2
 unfolding answerConfig
-returns-2 c = rw (← c .before .before .before .before .before .read-config .ensures, c .before .before .before .cfg .given .1, ← c .before .with-config .ensures, ← c .blank-answer .ensures)
+returns-2 c = rw (← c .before .before .before .before .before .read-config .ensures, c .before .before .before .cfg .given .1, ← c .before .with-config .ensures, ← c .silent .ensures)
 
 pub answer-config-spec : {M : Type 1} → statement M
 answer-config-spec =
@@ -39,6 +44,6 @@ answer-config-spec =
     refusal-requires
     enum-known-cfg
     with-config-requires
-    blank-answer-requires
+    silent-requires
     returns
     returns-2)

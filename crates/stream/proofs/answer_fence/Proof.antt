@@ -1,9 +1,15 @@
--- `stream::answer_fence` meets its contract. Assumes nothing.
 use Rattle.stream.specs.Stream.{answerFence}
 use borrow.Author.Tests.{eq-eqb, ne-eqb}
 use borrow.Author.Needs.{needs}
 use Rattle.stream.proofs.answer_fence.Statement.{statement}
 use Rattle.stream.proofs.answer_fence.Tie as tie
+use Rattle.stream.proofs.answer_fence.Reads as reads
+use Rattle.stream.proofs.answer_fence.Lts as lts
+use Rattle.flight.proofs.accept_flight.Reads as accept-flight-reads
+use Rattle.frame_fence.proofs.read_fence.Reads as read-fence-reads
+use Rattle.stream.proofs.flying.Reads as flying-reads
+use Rattle.stream.proofs.refusal.Reads as refusal-reads
+use Rattle.stream.proofs.silent.Reads as silent-reads
 
 read-fence-requires : tie.Need-read-fence-requires
 read-fence-requires c κs = search needs
@@ -25,15 +31,15 @@ returns-2 : tie.Need-returns-2
 unfolding answerFence
 returns-2 c = rw (← c .before .before .before .before .read-fence .ensures, eq-eqb _ _ (c .before .before .before .if1 .left), ← c .before .before .accept-flight .ensures, ne-eqb _ _ (c .before .if2 .taken), ← c .refusal2 .ensures)
 
-in-flight-requires : tie.Need-in-flight-requires
-in-flight-requires c κs = search needs
+flying-requires : tie.Need-flying-requires
+flying-requires c κs = search needs
 
-blank-answer-requires : tie.Need-blank-answer-requires
-blank-answer-requires c κs = search needs
+silent-requires : tie.Need-silent-requires
+silent-requires c κs = search needs
 
 returns-3 : tie.Need-returns-3
 unfolding answerFence
-returns-3 c = rw (← c .before .before .before .before .before .read-fence .ensures, eq-eqb _ _ (c .before .before .before .before .if1 .left), ← c .before .before .before .accept-flight .ensures, eq-eqb _ _ (c .before .before .if2 .left), ← c .before .in-flight .ensures, ← c .blank-answer .ensures)
+returns-3 c = rw (← c .before .before .before .before .before .read-fence .ensures, eq-eqb _ _ (c .before .before .before .before .if1 .left), ← c .before .before .before .accept-flight .ensures, eq-eqb _ _ (c .before .before .if2 .left), ← c .before .flying .ensures, ← c .silent .ensures)
 
 pub answer-fence-spec : {M : Type 1} → statement M
 answer-fence-spec =
@@ -45,6 +51,6 @@ answer-fence-spec =
     accept-flight-requires
     refusal-requires-2
     returns-2
-    in-flight-requires
-    blank-answer-requires
+    flying-requires
+    silent-requires
     returns-3)

@@ -1,22 +1,25 @@
--- `decide::answer_all` is safe and ends. The invariant: the output keeps its length. The measure is the count of turns.
+-- `decide::fly` is safe and ends. The invariant: the output keeps its length. The measure is the count of turns.
 use mathlib.Core.Path.{_≡_, refl}
 use native.Mathlib.Omega.{arith}
 use borrow.Author.Needs.{needs}
 use lib.ListN.{length}
-use Rattle.decide.proofs.answer_all.Statement.{statement}
-use Rattle.decide.proofs.answer_all.Tie as tie
+use Rattle.decide.proofs.fly.Statement.{statement}
+use Rattle.decide.proofs.fly.Tie as tie
+use Rattle.decide.proofs.fly.Reads as reads
+use Rattle.decide.proofs.fly.Lts as lts
+use Rattle.decide.proofs.fly_next.Reads as fly-next-reads
 
 abbrev Inv-loop : tie.InvT-loop
-Inv-loop input output₀ p₀ turns₀ output p turns = length output ≡ length output₀
+Inv-loop f from input output₀ p₀ turns₀ output p turns = length output ≡ length output₀
 
 abbrev μ-loop : tie.MeasureT-loop
-μ-loop input output₀ p₀ turns₀ output p turns = turns
+μ-loop f from input output₀ p₀ turns₀ output p turns = turns
 
 loop-holds : tie.Need-loop-holds Inv-loop μ-loop
 loop-holds c = refl
 
-answer-next-requires : tie.Need-answer-next-requires Inv-loop μ-loop
-answer-next-requires c κs = search needs
+fly-next-requires : tie.Need-fly-next-requires Inv-loop μ-loop
+fly-next-requires c κs = search needs
 
 sub-turns : tie.Need-sub-turns Inv-loop μ-loop
 sub-turns c = omega arith
@@ -39,14 +42,14 @@ same-length-2 c = search needs
 returns-2 : tie.Need-returns-2 Inv-loop μ-loop
 returns-2 c = search needs
 
-pub answer-all-spec : {M : Type 1} → statement M
-answer-all-spec =
+pub fly-spec : {M : Type 1} → statement M
+fly-spec =
     tie.close
     (tie.spec
     Inv-loop
     μ-loop
     loop-holds
-    answer-next-requires
+    fly-next-requires
     sub-turns
     loop-less
     loop-again
