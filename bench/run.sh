@@ -1,6 +1,6 @@
 #!/usr/bin/env bash
-# Times the port beside the Rust (docs/RUST.md says how to read it): the step entry, then `decide` on a stream of 200,000
-# telemetry frames. The Rust is built twice: as cargo's release profile does, and with everything in one unit.
+# Times the port beside the Rust (docs/RUST.md says how to read it): the step entry, the frames, then `decide` on a stream of
+# 200,000 telemetry frames. The Rust is built twice: as cargo's release profile does, and with everything in one unit.
 # Needs the Rust's source. Nothing here passes or fails.
 set -eu
 top=$(cd "$(dirname "${BASH_SOURCE[0]}")/.." && pwd)
@@ -8,7 +8,9 @@ cd "$top"
 build=$top/build/bench
 mkdir -p "$build"
 
-rt staticlib failsafe >"$build/staticlib.out" 2>&1 || { cat "$build/staticlib.out" && exit 1; }
+for library in failsafe frames_c; do
+    rt staticlib $library >"$build/staticlib.out" 2>&1 || { cat "$build/staticlib.out" && exit 1; }
+done
 rt check decide >"$build/check.out" 2>&1 || { cat "$build/check.out" && exit 1; }
 CUTHRANSI_STATICLIB=$top/target/staticlib
 export CUTHRANSI_STATICLIB

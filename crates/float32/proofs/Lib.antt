@@ -1,8 +1,8 @@
 -- The theorems of `float32`, in SquareRoot and Libm, and what its proofs share.
 pub mod SquareRoot
 pub mod Libm
-mod Newton
 mod Squares
 mod Round
 mod Patterns
 mod Nearest
+mod Guess

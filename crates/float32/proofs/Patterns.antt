@@ -2,18 +2,19 @@
 use mathlib.Core.Path.{_≡_, refl, sym, ap, subst, _∙_}
 use mathlib.Core.Logic.{_⊎_, inl, inr}
 use Prim.Native.Nat.{ℕ, zero, suc, _+_, _-_, _*_, _/_, _%_, _^_, _≤_, _<_, zero-le}
-use native.Mathlib.Nat.{le-trans, le-of-eq, lt-of-le-of-lt, lt-of-not-le, not-le-of-lt, lt-irrefl, zero-lt-suc, mul-pos, mul-one, zero-mul, mul-assoc, mul-right-comm, mul-div-cancel, mul-le-mul-right, mul-lt-mul-of-pos-right, mod-eq-of-lt, eq-zero-or-pos, eq-or-lt-of-le}
+use native.Mathlib.Nat.{le-trans, le-of-eq, lt-of-le-of-lt, lt-of-not-le, not-le-of-lt, lt-irrefl, zero-lt-suc, mul-pos, mul-one, zero-mul, mul-assoc, mul-right-comm, mul-div-cancel, mul-le-mul, mul-le-mul-right, le-of-mul-le-mul-right, mul-lt-mul-of-pos-right, mod-eq-of-lt, eq-zero-or-pos, eq-or-lt-of-le}
 use native.Mathlib.Omega.{arith}
 use mathlib.Core.Bool.{Bool, true, false, not, cond, true≢false, false≢true}
 use lib.IntN.{ℤ}
 use lib.Dec.{T, leb, ltb, eqb, leb→le, ltb→lt, lt→ltb, eqb→eq, not-T, nleb→lt}
 use lib.Count.{leadingZeros, leading-top}
 use lib.Pow.{pow-add, pow-pos, pow-mono}
-use lib.Ieee.{Float, nan, inf, fin, binary32, up, down, odd, fits, isNan, eq, lt, level, ofFields, ofBits, toBits, nanBits}
+use lib.Ieee.{Float, nan, inf, fin, binary32, up, down, odd, fits, isNan, eq, lt, le, level, ofFields, ofBits, toBits, nanBits}
 use lib.Ieee.Bits.{is-true, is-false, cond-no, nanBits-is, nanBits-above, ofBits-toBits}
 use lib.Ieee.Fits.{down-pos, up-pos, round-fits, nan-fits, and-l, and-i, eq→eqb}
 use lib.Ieee.Exact.{HasValue, odd-sign}
-use lib.Ieee.Positive.{above, first-pos}
+use lib.Ieee.Order.{le-of-values}
+use lib.Ieee.Positive.{positive, above, first-pos, above-of-le, positive-of-value, values-of-le}
 use Rattle.float32.specs.Sqrt.{roundedRoot, squareRoot}
 
 -- ---- the root of a / 2 ^ 149
@@ -200,6 +201,50 @@ is-top x f a l =
     let e = ofBits-toBits binary32 x f in
     let t : x ≡ inf false = sym e ∙ ap (ofBits binary32) (top-only b l (subst (λ (y : Float). T (above y)) (sym e) a)) in
     t ∙ sym (ap squareRoot t)
+
+-- ---- the least normal number, whose pattern is 2 ^ 23
+least-positive : T (positive (ofBits binary32 0x80_0000))
+unfolding ofBits
+least-positive = tt
+
+least-value : HasValue (ofBits binary32 0x80_0000) false (2 ^ 23) (2 ^ 149)
+unfolding ofBits
+least-value = (refl, refl)
+
+pub normal-above : (x : Float) → le (ofBits binary32 0x80_0000) x ≡ true → T (above x)
+normal-above x e = above-of-le (ofBits binary32 0x80_0000) x least-positive (subst T (sym e) tt)
+
+pub normal-bits : (x : Float) → T (fits binary32 x) → le (ofBits binary32 0x80_0000) x ≡ true → 2 ^ 23 ≤ toBits binary32 x
+normal-bits x f e = go (leb (2 ^ 23) (toBits binary32 x)) (leb→le (2 ^ 23) (toBits binary32 x)) (nleb→lt (2 ^ 23) (toBits binary32 x))
+  where
+    small : toBits binary32 x < 2 ^ 23 → HasValue x false (toBits binary32 x) (2 ^ 149)
+    small l = subst (λ (y : Float). HasValue y false (toBits binary32 x) (2 ^ 149)) (ofBits-toBits binary32 x f) (low-value (toBits binary32 x) l)
+
+    go : (t : Bool) → (T t → 2 ^ 23 ≤ toBits binary32 x) → (T (not t) → toBits binary32 x < 2 ^ 23) → 2 ^ 23 ≤ toBits binary32 x
+    go true y n = y tt
+    go false y n =
+        let v = small (n tt) in
+        let p = positive-of-value x (toBits binary32 x) (2 ^ 149) v (pattern-pos x f (normal-above x e)) in
+        le-of-mul-le-mul-right (values-of-le (ofBits binary32 0x80_0000) x (2 ^ 23) (2 ^ 149) (toBits binary32 x) (2 ^ 149) least-positive p least-value v (subst T (sym e) tt)) (pow-pos 149)
+
+least-of-top : (b : ℕ) → b ≡ 255 * 2 ^ 23 → T (le (ofBits binary32 0x80_0000) (ofBits binary32 b))
+unfolding ofBits le
+least-of-top b e = subst (λ (y : ℕ). T (le (ofBits binary32 0x80_0000) (ofBits binary32 y))) (sym e) tt
+
+pub least-le : (b : ℕ) → 2 ^ 23 ≤ b → b < 255 * 2 ^ 23 → T (le (ofBits binary32 0x80_0000) (ofBits binary32 b))
+least-le b l h =
+    le-of-values (ofBits binary32 0x80_0000) (ofBits binary32 b) (2 ^ 23) (2 ^ 149) ((2 ^ 23 + b % 2 ^ 23) * 2 ^ (b / 2 ^ 23 - 1)) (2 ^ 149) (pow-pos 149) (pow-pos 149) least-value (high-value b l h)
+    (mul-le-mul-right (2 ^ 149) (le-trans (le-of-eq (sym (mul-one (2 ^ 23)))) (mul-le-mul {n₁ = 2 ^ 23} (omega arith) (pow-pos (b / 2 ^ 23 - 1)))))
+
+pub subnormal-bits : (x : Float) → T (fits binary32 x) → T (above x) → le (ofBits binary32 0x80_0000) x ≡ false → toBits binary32 x < 2 ^ 23
+subnormal-bits x f a e = lt-of-not-le (λ (g : 2 ^ 23 ≤ toBits binary32 x). subst T (ap (le (ofBits binary32 0x80_0000)) (ofBits-toBits binary32 x f) ∙ e) (reached (toBits binary32 x) g (subst (λ (y : Float). T (above y)) (sym (ofBits-toBits binary32 x f)) a)))
+  where
+    reached : (b : ℕ) → 2 ^ 23 ≤ b → T (above (ofBits binary32 b)) → T (le (ofBits binary32 0x80_0000) (ofBits binary32 b))
+    reached b g a = go (leb (255 * 2 ^ 23) b) (leb→le (255 * 2 ^ 23) b) (nleb→lt (255 * 2 ^ 23) b)
+      where
+        go : (t : Bool) → (T t → 255 * 2 ^ 23 ≤ b) → (T (not t) → b < 255 * 2 ^ 23) → T (le (ofBits binary32 0x80_0000) (ofBits binary32 b))
+        go true y n = least-of-top b (top-only b (y tt) a)
+        go false y n = least-le b g (n tt)
 
 -- ---- the pattern of a root is no NaN's
 pub not-nan-bits : (r : ℕ) → r < 255 * 2 ^ 23 → T (not (nanBits binary32 r))

@@ -7,13 +7,14 @@ use mathlib.Core.Bool.{Bool, false, not, cond}
 use lib.Arith.{lt-of-le-ne}
 use lib.Dec.{T, isLe, isEq, leb→le, nleb→lt, eqb, eqb→eq, eqb-refl}
 use lib.Pow.{pow-add, pow-pos, pow-mono}
-use lib.Ieee.{Float, nan, inf, fin, binary32, up, down, size, nearest, units, round, toBits}
+use lib.Ieee.{Float, nan, inf, fin, binary32, up, down, size, nearest, units, round, ofBits, toBits}
 use lib.Ieee.Digits.{size-lt, size-le}
 use lib.Ieee.Fits.{round-is, down-pos}
 use lib.Ieee.Exact.{HasValue, units-val}
 use lib.Ieee.Nearest.{closest, closest-same}
-use Rattle.float32.specs.Sqrt.{isqrt, roundedRoot}
-use Rattle.float32.proofs.Squares.{isqrt-cut, below-middle, above-middle, root-low, root-high, near-low, near-high}
+use Rattle.float32.specs.Sqrt.{isqrt, roundedRoot, squareRoot}
+use Rattle.float32.proofs.Patterns.{high-root}
+use Rattle.float32.proofs.Squares.{Near, isqrt-cut, below-middle, above-middle, root-low, root-high, near-low, near-high}
 
 -- ---- the nearest whole number to a / b, from its two middles
 abbrev Cmp : Ordering → ℕ → ℕ → Type 0
@@ -162,6 +163,17 @@ handed q g lo hi = go (g % 2) (mod-lt g {m = 2} (zero-lt-suc 1))
         let e : 2 - suc r ≡ 1 = omega arith in
         subst (λ (y : ℕ). (2 ^ 23 ≤ q * y) × (q * y ≤ 2 * q)) (sym e) (omega arith, omega arith)
 
+-- the same from a normal number's bits
+pub doubled : (b : ℕ) → b % 2 ^ 24 < 2 ^ 23 → 2 * (b % 2 ^ 24) + 2 ^ 24 ≡ (b % 2 ^ 23 + 2 ^ 23) * (2 - (b / 2 ^ 23 + 50) % 2)
+doubled b h =
+    let e : (b / 2 ^ 23 + 50) % 2 ≡ 0 = omega arith in
+    subst (λ (y : ℕ). 2 * (b % 2 ^ 24) + 2 ^ 24 ≡ (b % 2 ^ 23 + 2 ^ 23) * (2 - y)) (sym e) (omega arith)
+
+pub single : (b : ℕ) → 2 ^ 23 ≤ b % 2 ^ 24 → b % 2 ^ 24 ≡ (b % 2 ^ 23 + 2 ^ 23) * (2 - (b / 2 ^ 23 + 50) % 2)
+single b h =
+    let e : (b / 2 ^ 23 + 50) % 2 ≡ 1 = omega arith in
+    subst (λ (y : ℕ). b % 2 ^ 24 ≡ (b % 2 ^ 23 + 2 ^ 23) * (2 - y)) (sym e) (omega arith)
+
 pub root-of-bits : (q g p : ℕ) → (2 ^ 23 ≤ q) × (q < 2 ^ 24) × (28 ≤ g) × (g ≤ 304) → (p * p < q * (2 - g % 2) * 2 ^ 23 + p) × (q * (2 - g % 2) * 2 ^ 23 ≤ p * p + p)
     → ((g + 75) / 2 * 8388608 + p ≡ toBits binary32 (roundedRoot (q * 2 ^ g))) × (p < 2 ^ 24)
 root-of-bits q g p h k =
@@ -169,3 +181,12 @@ root-of-bits q g p h k =
     let n = q * (2 - g % 2) * 2 ^ 23 in
     let e : (g + 75) / 2 * 8388608 + p ≡ (50 + (g - 25) / 2) * 2 ^ 23 + p = omega arith in
     (e ∙ sym (ap (λ (y : ℕ). toBits binary32 (roundedRoot y)) (scale q g (h .2)) ∙ root-bits n p ((g - 25) / 2) (omega arith) (omega arith) (k .0) (k .1) (omega arith)), near-high n p (omega arith) (k .0))
+
+pub normal-root-bits : (b m p : ℕ) → (2 ^ 23 ≤ b) × (b < 255 * 2 ^ 23) → m ≡ (b % 2 ^ 23 + 2 ^ 23) * (2 - (b / 2 ^ 23 + 50) % 2) → Near (m * 2 ^ 23) p
+    → ((b / 2 + 0x1f40_0000) / 8388608 * 8388608 + p ≡ toBits binary32 (squareRoot (ofBits binary32 b))) × (p < 2 ^ 24)
+normal-root-bits b m p h e k =
+    let q = b % 2 ^ 23 + 2 ^ 23 in
+    let g = b / 2 ^ 23 + 50 in
+    let r = root-of-bits q g p (omega arith, omega arith, omega arith, omega arith) (subst (λ (y : ℕ). Near (y * 2 ^ 23) p) e k) in
+    let low : (b / 2 + 0x1f40_0000) / 8388608 * 8388608 ≡ (g + 75) / 2 * 8388608 = omega arith in
+    (ap (λ (y : ℕ). y + p) low ∙ r .0 ∙ ap (toBits binary32) (sym (high-root b (h .0) (h .1))), r .1)

@@ -1,22 +1,22 @@
--- Squares of whole numbers: the definition's whole root, and what the loops of `isqrt` and `nearest_root` keep. Assumes nothing.
+-- Squares of whole numbers: the definition's whole root, and how `nearest_root` finds the nearest one. Assumes nothing.
 use mathlib.Core.Path.{_≡_, refl, sym, ap, subst, _∙_}
 use Prim.Native.Nat.{ℕ, zero, suc, _+_, _-_, _*_, _/_, _%_, _^_, _≤_, _<_}
-use native.Mathlib.Nat.{le-trans, le-of-eq, lt-of-lt-of-le, lt-of-le-of-lt, lt-of-not-le, not-le-of-lt, mul-le-mul, mul-comm, mul-assoc, mul-left-comm, mul-add, add-mul, add-assoc, add-comm, pow-succ', pow-le-pow-left, div-lt-iff-lt-mul, div-add-mod', mod-lt, mul-mul-mul-comm, mul-le-mul-right, mul-lt-mul-of-pos-right, mul-pos, one-mul, le-of-suc-le-suc}
+use native.Mathlib.Nat.{le-trans, le-of-eq, lt-of-lt-of-le, lt-of-le-of-lt, lt-of-not-le, not-le-of-lt, mul-le-mul, mul-comm, mul-assoc, mul-left-comm, mul-add, add-mul, add-assoc, add-comm, zero-lt-suc, pow-succ', pow-le-pow-left, mul-mul-mul-comm, mul-le-mul-right, mul-lt-mul-of-pos-right, mul-pos, one-mul, le-of-suc-le-suc}
+use mathlib.Core.Logic.{_⊎_, inl, inr}
 use native.Mathlib.Numerals.{add-one}
 use native.Mathlib.Omega.{arith}
 use mathlib.Core.Bool.{Bool, true, false, not, cond}
 use lib.Dec.{lit≤, T, leb, leb→le, nleb→lt}
 use lib.Ieee.{size}
 use lib.Ieee.Digits.{size-lt}
-use Rattle.float32.proofs.Newton.{products-le-squares}
 use Rattle.float32.specs.Sqrt.{isqrtBelow, isqrt}
 
 -- r is n's root, cut to a whole number
-abbrev pub Cut : ℕ → ℕ → Type 0
+abbrev Cut : ℕ → ℕ → Type 0
 Cut n r = (r * r ≤ n) × (n < (r + 1) * (r + 1))
 
 -- a square that is below another is a smaller number's
-pub sq-lt : (a b : ℕ) → a * a < b * b → a < b
+sq-lt : (a b : ℕ) → a * a < b * b → a < b
 sq-lt a b h = lt-of-not-le (λ (g : b ≤ a). not-le-of-lt h (mul-le-mul g g))
 
 -- ---- the definition's root
@@ -61,70 +61,75 @@ pub isqrt-cut : (n : ℕ) → Cut n (isqrt n)
 unfolding isqrt
 isqrt-cut n = isqrtBelow-cut (size n) n (lt-of-lt-of-le (size-lt n) (four-of-two (size n)))
 
--- ---- the first guess: h / 8192 + 2048 is no less than the root of h, since a square of a sum is at least four times the product
 pub sq-sum : (a b : ℕ) → (a + b) * (a + b) ≡ a * a + 2 * (a * b) + b * b
 sq-sum a b = simp (mul-add, add-mul, mul-comm, add-assoc, add-comm) (omega arith)
 
-pub first-guess : (h : ℕ) → h < (h / 8192 + 2048 + 1) * (h / 8192 + 2048 + 1)
-first-guess h =
-    let a = h / 8192 + 1 in
-    let p : h / 8192 + 2048 + 1 ≡ a + 2048 = omega arith in
-    let q : 2 * (a * 2048) ≤ a * a + 2048 * 2048 = products-le-squares' a 2048 in
-    subst (λ (z : ℕ). h < z * z) (sym p) (omega (arith, sq-sum a 2048))
+-- ---- the numbers that `lowered` and `raised` pass
+pub square-fits : (p : ℕ) → p < 2 ^ 32 → p * p + 2 * p < 2 ^ 64
+square-fits p h = omega (arith, mul-le-mul-right p (top p h))
   where
-    products-le-squares' : (a b : ℕ) → 2 * (a * b) ≤ a * a + b * b
-    products-le-squares' a b = omega (arith, products-le-squares a b)
+    top : (p : ℕ) → p < 2 ^ 32 → p ≤ 4294967295
+    top p h = omega arith
 
--- ---- the lower twelve digits
-pub upper-low : (h r : ℕ) → 2 ^ 22 ≤ h → h < (r + 1) * (r + 1) → 2048 ≤ r
-upper-low h r a b = omega (arith, sq-lt 2048 (r + 1) (lt-of-le-of-lt a b))
+pub root-pos : (n r : ℕ) → 0 < n → n + r ≤ r * r → 0 < r
+root-pos n zero h k = omega arith
+root-pos n (suc r) h k = zero-lt-suc r
 
-pub upper-high : (h r : ℕ) → h < 2 ^ 24 → r * r ≤ h → r < 4096
-upper-high h r a b = sq-lt r 4096 (lt-of-le-of-lt b a)
+pub root-small : (n r : ℕ) → n < 2 ^ 48 → r * r < n + r → r < 2 ^ 25
+root-small n r h k = lt-of-not-le (λ (g : 33554432 ≤ r). clash g (mul-le-mul-right r g))
+  where
+    clash : 33554432 ≤ r → 33554432 * r ≤ r * r → ⊥
+    clash g l = omega arith
 
-pub left-over : (h r : ℕ) → h < (r + 1) * (r + 1) → h ≤ r * r + 2 * r
-left-over h r b = omega (arith, sq-sum r 1)
+pub next-root : (n r : ℕ) → r * r + r < n → (r + 1) * (r + 1) < n + (r + 1)
+next-root n r h = omega (arith, sq-sum r 1)
 
-pub first-low : (a r : ℕ) → 2048 ≤ r → a ≤ 8192 * r + 2048 → a / (2 * r) ≤ 4096
-first-low a r R h = omega (arith, div-lt-iff-lt-mul {k = 2 * r} {x = a} {y = 4097} (omega arith) .1 (omega arith))
+-- ---- a guess p that is within 1 of n's root is put right by at most one
+abbrev pub Near : ℕ → ℕ → Type 0
+Near n p = (p * p < n + p) × (n ≤ p * p + p)
 
--- one step down
-pub step-sum : (r t u : ℕ) → 0 < t → 2 * r * (t - 1) + (u + 2 * r) ≡ 2 * r * t + u
-step-sum r t u h =
-    let s = t - 1 in
-    let e : t ≡ s + 1 = omega arith in
-    omega (arith, ap (λ (z : ℕ). 2 * r * z) e, mul-add (2 * r) s 1)
-
-pub step-near : (r t u : ℕ) → 0 < t → u * 4096 < t * t → (u + 2 * r) * 4096 < (t - 1) * (t - 1) + 2 * (r * 4096 + (t - 1)) + 1
-step-near r t u h k =
-    let s = t - 1 in
-    let e : t ≡ s + 1 = omega arith in
-    let q : t * t ≡ s * s + 2 * (s * 1) + 1 * 1 = ap (λ (z : ℕ). z * z) e ∙ sq-sum s 1 in
+pub over-is : (n p o : ℕ) → n < 2 ^ 48 → p < 2 ^ 32 → o < 4 * p → (o + n) % 2 ^ 64 ≡ p * (p + 2) → o + n ≡ p * p + 2 * p
+over-is n p o h k l e =
+    let a : p * (p + 2) ≡ p * p + p * 2 = mul-add p p 2 in
     omega arith
 
--- n + t * t is the whole root's square and u * 4096
-pub whole-square : (m h r t u : ℕ) → h ≡ m / 2 → r * r ≤ h → 2 * r * t + u ≡ (h - r * r) * 4096 + m % 2 * 2048 → m * 2 ^ 23 + t * t ≡ (r * 4096 + t) * (r * 4096 + t) + u * 4096
-whole-square m h r t u e l k =
-    let p : r * 4096 * (r * 4096) ≡ 16777216 * (r * r) = simp (mul-assoc, mul-comm, mul-left-comm) (omega arith) in
-    let q : r * 4096 * t ≡ 4096 * (r * t) = simp (mul-assoc, mul-comm) in
-    let w : 2 * r * t ≡ 2 * (r * t) = mul-assoc 2 r t in
-    omega (arith, sq-sum (r * 4096) t)
+pub guess-small : (n p o : ℕ) → n < 2 ^ 48 → o < 4 * p → o + n ≡ p * p + 2 * p → (0 < p) × (p < 2 ^ 25)
+guess-small n p o h l e = (omega arith, lt-of-not-le (λ (g : 33554432 ≤ p). clash g (mul-le-mul-right p g)))
+  where
+    clash : 33554432 ≤ p → 33554432 * p ≤ p * p → ⊥
+    clash g k = omega arith
+
+pub one-at-most : {A B : Type 0} {d : ℕ} → (A × (d ≡ 1)) ⊎ (B × (d ≡ 0)) → d ≤ 1
+one-at-most (inl (a, e)) = omega arith
+one-at-most (inr (b, e)) = omega arith
+
+one-less : (n q : ℕ) → 0 < n → q * q ≤ n → q * q < n + q
+one-less n zero h k = omega arith
+one-less n (suc q) h k = omega arith
+
+pub put-right : (n p o u d : ℕ) → 0 < n → o < 4 * p → o + n ≡ p * p + 2 * p → ((o < p) × (u ≡ 1)) ⊎ ((p ≤ o) × (u ≡ 0)) → ((3 * p ≤ o) × (d ≡ 1)) ⊎ ((o < 3 * p) × (d ≡ 0)) → Near n (p + u - d)
+put-right n p o u d z l e (inl (a, b)) (inr (c, f)) =
+    let g : p + u - d ≡ p + 1 = omega arith in
+    subst (Near n) (sym g) (omega (arith, sq-sum p 1), omega (arith, sq-sum p 1))
+put-right n p o u d z l e (inl (a, b)) (inl (c, f)) = absurd (clash a c)
+  where
+    clash : o < p → 3 * p ≤ o → ⊥
+    clash a c = omega arith
+put-right n p o u d z l e (inr (a, b)) (inr (c, f)) =
+    let g : p + u - d ≡ p = omega arith in
+    subst (Near n) (sym g) (omega arith, omega arith)
+put-right n p o u d z l e (inr (a, b)) (inl (c, f)) =
+    let q = p - 1 in
+    let g : p + u - d ≡ q = omega arith in
+    let v : p ≡ q + 1 = omega arith in
+    let w : p * p ≡ q * q + 2 * (q * 1) + 1 * 1 = ap (λ (x : ℕ). x * x) v ∙ sq-sum q 1 in
+    subst (Near n) (sym g) (one-less n q z (omega arith), omega arith)
 
 pub settle : (n q s v : ℕ) → n + s ≡ q * q + v → s ≤ v → v < s + 2 * q + 1 → q < v - s → ((q + 1) * (q + 1) < n + (q + 1)) × (n ≤ (q + 1) * (q + 1) + (q + 1))
 settle n q s v e l h k = (omega (arith, sq-sum q 1), omega (arith, sq-sum q 1))
 
 pub settle-low : (n q s v : ℕ) → n + s ≡ q * q + v → s ≤ v → 0 < q → v - s ≤ q → (q * q < n + q) × (n ≤ q * q + q)
 settle-low n q s v e l h k = (omega arith, omega arith)
-
--- the bounds of the upper digits, and of the remainder
-pub range : (m r : ℕ) → (2 ^ 23 ≤ m) × (m < 2 ^ 25) → Cut (m / 2) r → (2048 ≤ r) × (r < 4096) × (m / 2 ≤ r * r + 2 * r)
-range m r h k = (upper-low (m / 2) r (omega arith) (k .1), upper-high (m / 2) r (omega arith) (k .0), left-over (m / 2) r (k .1))
-
-pub start : (a r : ℕ) → 2048 ≤ r → a ≤ 8192 * r + 2048
-    → (2 * r * (a / (2 * r)) + a % (2 * r) ≡ a) × (a % (2 * r) * 4096 < a / (2 * r) * (a / (2 * r)) + 2 * (r * 4096 + a / (2 * r)) + 1) × (a / (2 * r) ≤ 4096)
-start a r R h =
-    let t = a / (2 * r) in
-    (omega (arith, div-add-mod' a (2 * r), mul-comm (2 * r) t), omega (arith, mod-lt a {m = 2 * r} (omega arith)), first-low a r R h)
 
 -- ---- a root of 4 n E E that lies beside p of n: the two middles next to p, times E, are on its two sides
 regroup : (a e : ℕ) → a * e * (a * e) ≡ a * a * (e * e)

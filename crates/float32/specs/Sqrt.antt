@@ -1,5 +1,5 @@
 -- The square root. Document 01, 'What changes shape': "the square root is the binary32 number nearest to the exact root, decided by comparing squares of whole numbers. ..
--- −0 gives −0, +infinity itself, a negative number or NaN gives NaN." (The sentence left out is on the way there: `root_bits` in the code.)
+-- −0 gives −0, +infinity itself, a negative number or NaN gives NaN." (The sentence left out is on the way there: `subnormal_root` in the code.)
 -- This is squareRoot of IEEE 754-2019 under roundTiesToEven. No exact root lies in the middle of two binary32 numbers, so the rule for ties is never asked.
 -- `Nearest.antt` beside this says what nearest is, and proofs/SquareRoot.antt shows that `squareRoot` is that number. Assumes nothing.
 use Prim.Native.Nat.{ℕ, zero, suc, _+_, _*_, _/_, _^_}

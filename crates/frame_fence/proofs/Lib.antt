@@ -2,3 +2,4 @@
 pub mod Corners
 pub mod Bytes
 pub mod Rules
+pub mod Parts

@@ -1,7 +1,7 @@
 // Kind 2: a fence in its frame, read as it was sent and written; and the fence rules applied to what was read.
 ghost use mathlib.Core.Path.{_≡_};
 ghost use Prim.Native.Nat.{_+_, _*_, _<_, _≤_, min};
-ghost use lib.ListN.{take};
+ghost use lib.ListN.{length, take};
 ghost use lib.Seq.{sets};
 ghost use Rattle.wire.specs.Cell.{bytesOf};
 ghost use Rattle.frame_fence.specs.FenceFrame.{pointAt, cornersAt, cornerArray, refusedFence, readFence, fenceOf};
@@ -20,18 +20,21 @@ pub struct FenceRead {
     pub corners: [Point2; 16],
 }
 
+// A part of eight bytes: its length is known, so that no read of it is tested.
 fn point_at(s: &[u8], at: usize) -> Point2
-    requires { ⌜ at < 65536 ⌝ }
+    requires { ⌜ at + 8 ≤ length (now s) ⌝ }
     ensures { λ r. ⌜ r ≡ pointAt (now (s .entry)) at ⌝ }
 {
+    let end = at + 8;
+    let part = &s[at..end];
     Point2 {
-        n: wire::f32_at(s, at),
-        e: wire::f32_at(s, at + 4),
+        n: wire::f32_at(part, 0),
+        e: wire::f32_at(part, 4),
     }
 }
 
 fn corners_at(s: &[u8], n: usize) -> [Point2; 16]
-    requires { ⌜ n ≤ 16 ⌝ }
+    requires { ⌜ (n ≤ 16) × (13 + 8 * n ≤ length (now s)) ⌝ }
     ensures { λ r. ⌜ r ≡ cornerArray (cornersAt (now (s .entry)) 13 n) ⌝ }
 {
     let zero = Point2 { n: 0.0, e: 0.0 };

@@ -1,8 +1,12 @@
 // Kind 5: the supervisor's state, without configuration and fence, in its frame of 186 bytes, read and written.
 ghost use mathlib.Core.Path.{_≡_};
+ghost use Prim.Native.Nat.{_+_, _≤_};
+ghost use lib.ListN.{length};
 ghost use lib.Seq.{sets};
 ghost use Rattle.supervisor.specs.Rules.{finiteVec, finiteStored};
 ghost use Rattle.wire.specs.Frame.{roomFault, frameWritten};
+ghost use Rattle.options.specs.Options.{validOption};
+ghost use Rattle.options.specs.Position.{optionPositionAt};
 ghost use Rattle.frame_state.specs.StateFrame.{timerAt, triggersAt, arbiterAt, stateAt, timersValid, stateValid, readState, leTimer, leLinks, leFence, leBattery, leInput, leTriggers, leArbiter, stateFrame};
 use arbiter::ArbiterState;
 use disarm::DisarmGate;
@@ -72,7 +76,8 @@ fn arbiter_at(s: &[u8]) -> ArbiterState
     }
 }
 
-fn state_at(s: &[u8]) -> Supervisor
+fn state_at(s: &[u8], stored: OptionPositionSample) -> Supervisor
+    requires { ⌜ stored ≡ optionPositionAt (now s) 145 ⌝ }
     ensures { λ r. ⌜ r ≡ stateAt (now (s .entry)) ⌝ }
 {
     Supervisor {
@@ -82,7 +87,7 @@ fn state_at(s: &[u8]) -> Supervisor
             hold_since_ms: options::option_u32_at(s, 140),
         },
         glitch: GlitchState {
-            last_accepted: options::option_position_at(s, 145),
+            last_accepted: stored,
             reject_streak: wire::u8_at(s, 174),
         },
         last_now: options::option_u32_at(s, 175),
@@ -92,17 +97,33 @@ fn state_at(s: &[u8]) -> Supervisor
     }
 }
 
+// Whether a timer whose bytes are all within the slice is a byte 0 with four bytes 0 after it, or a byte 1.
+fn timer_valid(s: &[u8], at: usize) -> bool
+    requires { ⌜ at + 5 ≤ length (now s) ⌝ }
+    ensures { λ r. ⌜ r ≡ validOption (now (s .entry)) at 4 ⌝ }
+{
+    let f = s[at];
+    if f == 0 {
+        wire::quad(s[at + 1], s[at + 2], s[at + 3], s[at + 4]) == 0
+    } else {
+        f == 1
+    }
+}
+
 // The 24 timers that stand one after the other.
 fn timers_valid(s: &[u8]) -> bool
+    requires { ⌜ length (now s) ≡ 186 ⌝ }
     ensures { λ r. ⌜ r ≡ timersValid (now (s .entry)) 24 ⌝ }
 {
-    let mut valid = true;
     let mut i: usize = 0;
     while i < 24 {
-        valid = valid & options::option_valid(s, 6 + 5 * i, 4);
-        i += 1;
+        if timer_valid(s, 6 + 5 * i) {
+            i += 1;
+        } else {
+            return false;
+        }
     }
-    valid
+    true
 }
 
 fn finite_vec(v: Vec3) -> bool
@@ -124,24 +145,27 @@ fn finite_stored(o: OptionPositionSample) -> bool
     }
 }
 
-fn state_valid(s: &[u8]) -> bool
+// No test is made after one that fails.
+fn state_valid(s: &[u8], stored: OptionPositionSample) -> bool
+    requires { ⌜ length (now s) ≡ 186 ⌝ }
+    requires { ⌜ stored ≡ optionPositionAt (now s) 145 ⌝ }
     ensures { λ r. ⌜ r ≡ stateValid (now (s .entry)) ⌝ }
 {
-    timers_valid(s)
-        & wire::byte_below(s, 4, 2)
-        & wire::byte_below(s, 5, 2)
-        & wire::byte_below(s, 126, 2)
-        & options::option_valid(s, 127, 4)
-        & wire::byte_below(s, 132, 4)
-        & wire::byte_below(s, 133, 5)
-        & wire::byte_below(s, 134, 19)
-        & options::option_valid(s, 135, 4)
-        & options::option_valid(s, 140, 4)
-        & options::option_valid(s, 145, 28)
-        & finite_stored(options::option_position_at(s, 145))
-        & options::option_valid(s, 175, 4)
-        & wire::byte_below(s, 184, 3)
-        & wire::byte_below(s, 185, 2)
+    let valid = timers_valid(s)
+        && wire::byte_below(s, 4, 2)
+        && wire::byte_below(s, 5, 2)
+        && wire::byte_below(s, 126, 2)
+        && timer_valid(s, 127)
+        && wire::byte_below(s, 132, 4)
+        && wire::byte_below(s, 133, 5)
+        && wire::byte_below(s, 134, 19)
+        && timer_valid(s, 135)
+        && timer_valid(s, 140)
+        && options::option_valid(s, 145, 28)
+        && finite_stored(stored)
+        && timer_valid(s, 175)
+        && wire::byte_below(s, 184, 3);
+    valid & wire::byte_below(s, 185, 2)
 }
 
 // The state of a whole frame, or the refusal number: 1 to 3 for the head, 4 for a field out of range.
@@ -150,8 +174,9 @@ pub fn read_state(s: &[u8]) -> StateRead
 {
     let fault = wire::frame_fault(s, 5, 184);
     if fault == 0 {
-        if state_valid(s) {
-            StateRead::Frame(state_at(s))
+        let stored = options::option_position_at(s, 145);
+        if state_valid(s, stored) {
+            StateRead::Frame(state_at(s, stored))
         } else {
             StateRead::Refused(4)
         }

@@ -149,21 +149,21 @@ fn telemetry_valid(s: &[u8]) -> bool
     ensures { λ r. ⌜ r ≡ telemetryValid (now (s .entry)) ⌝ }
 {
     let v = options::option_valid(s, 8, 28);
-    let v = v & options::option_valid(s, 37, 12);
-    let v = v & wire::byte_below(s, 42, 3);
-    let v = v & options::option_valid(s, 43, 1);
-    let v = v & options::option_valid(s, 45, 4);
-    let v = v & options::option_valid(s, 50, 8);
-    let v = v & options::option_valid(s, 59, 8);
-    let v = v & options::option_valid(s, 68, 8);
-    let v = v & options::option_valid(s, 77, 4);
-    let v = v & options::option_valid(s, 82, 5);
-    let v = v & wire::byte_below(s, 87, 2);
-    let v = v & options::option_valid(s, 88, 5);
-    let v = v & wire::byte_below(s, 93, 5);
-    let v = v & options::option_valid(s, 94, 5);
-    let v = v & wire::byte_below(s, 99, 2);
-    let v = v & options::option_valid(s, 100, 5);
+    let v = v && options::option_valid(s, 37, 12);
+    let v = v && wire::byte_below(s, 42, 3);
+    let v = v && options::option_valid(s, 43, 1);
+    let v = v && options::option_valid(s, 45, 4);
+    let v = v && options::option_valid(s, 50, 8);
+    let v = v && options::option_valid(s, 59, 8);
+    let v = v && options::option_valid(s, 68, 8);
+    let v = v && options::option_valid(s, 77, 4);
+    let v = v && options::option_valid(s, 82, 5);
+    let v = v && wire::byte_below(s, 87, 2);
+    let v = v && options::option_valid(s, 88, 5);
+    let v = v && wire::byte_below(s, 93, 5);
+    let v = v && options::option_valid(s, 94, 5);
+    let v = v && wire::byte_below(s, 99, 2);
+    let v = v && options::option_valid(s, 100, 5);
     v & wire::byte_below(s, 105, 2)
 }
 

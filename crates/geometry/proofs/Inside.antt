@@ -25,7 +25,7 @@ pos-left : (x y : ℕ) → 0 < x * y → 0 < x
 pos-left zero y h = rw zero-mul at h
 pos-left (suc x) y h = omega arith
 
-down-pos : (e : ℤ) → 0 < down e
+pub down-pos : (e : ℤ) → 0 < down e
 down-pos (pos k) = lit< tt
 down-pos (negsuc k) = pow-pos (suc k)
 

@@ -5,3 +5,6 @@ pub mod Lengths
 pub mod Callers
 pub mod Inside
 pub mod Constants
+pub mod Bounds
+pub mod Around
+pub mod Pairs

@@ -2,3 +2,4 @@
 pub mod Ring
 pub mod Acceptance
 pub mod Distance
+pub mod Round

@@ -1,10 +1,11 @@
 // The Rust's geometry.rs: the fence's polygon and altitudes, what is accepted, and the distance.
 ghost use mathlib.Core.Path.{_≡_};
 ghost use Prim.Native.Nat.{_+_, _%_, _<_, _≤_, min};
-ghost use lib.ListN.{take, drop};
+ghost use lib.ListN.{take};
 ghost use lib.Dec.{eqb};
-ghost use Rattle.geometry.specs.Ring.{any, turns, tails};
-ghost use Rattle.geometry.specs.Acceptance.{fenceErrorNumber, resultAnd, faultIf, firstFault, cornerFault, samePoint, recurs, flatTurn, cross2, mixedTurns, areaTerm, polygonArea, polygonFault, placeHeld, normalizeCcw, polygonNew, geofenceNew};
+ghost use Rattle.geometry.specs.Ring.{any, tails};
+ghost use Rattle.geometry.specs.Round.{place, failed, roundOf};
+ghost use Rattle.geometry.specs.Acceptance.{fenceErrorNumber, resultAnd, faultIf, firstFault, cornerFault, samePoint, recurs, flatTurn, cross2, areaTerm, polygonFault, placeHeld, normalizeCcw, polygonNew, geofenceNew};
 ghost use Rattle.geometry.specs.Distance.{ringOf, vertex, sideLength, sideLengths, edgeSignedDistanceBy, nearer, signedDistanceBy, signedDistance, contains};
 use types::OptionPoint2;
 use types::Point2;
@@ -96,11 +97,27 @@ pub struct SideLengths {
     pub m: [f32; 16],
 }
 
+// What one way round a polygon's corners tells: whether a corner has a fault, a turn is flat, goes left, goes right; the area.
+struct Round {
+    failed: bool,
+    flat: bool,
+    pos: bool,
+    neg: bool,
+    area: f32,
+}
+
 // A count, at most that of the array's places.
 fn capped(n: usize) -> usize
     ensures { λ r. ⌜ r ≡ min n 16 ⌝ }
 {
     if n < 16 { n } else { 16 }
+}
+
+// The place k of a ring of n, the first after the last.
+fn wrapped(k: usize, n: usize) -> usize
+    ensures { λ r. ⌜ r ≡ place k n ⌝ }
+{
+    if k < n { k } else { 0 }
 }
 
 // The place after i among n, the first after the last.
@@ -126,6 +143,15 @@ fn corner_fault(p: Point2) -> FenceResult
     non_finite.and(outside)
 }
 
+// Whether a corner has a fault: a NaN is in no interval.
+fn corner_failed(p: Point2) -> bool
+    ensures { λ r. ⌜ r ≡ failed (cornerFault p) ⌝ }
+{
+    let in_n = (p.n <= 10_000.0) & (p.n >= -10_000.0);
+    let in_e = (p.e <= 10_000.0) & (p.e >= -10_000.0);
+    !(in_n & in_e)
+}
+
 fn corners_fault(pts: [Point2; 16], n: usize) -> FenceResult
     requires { ⌜ n ≤ 16 ⌝ }
     ensures { λ r. ⌜ r ≡ firstFault cornerFault (take n pts) ⌝ }
@@ -143,36 +169,35 @@ fn corners_fault(pts: [Point2; 16], n: usize) -> FenceResult
 fn same_point(p: Point2, q: Point2) -> bool
     ensures { λ r. ⌜ r ≡ samePoint p q ⌝ }
 {
-    (p.n == q.n) & (p.e == q.e)
+    if p.n == q.n { p.e == q.e } else { false }
 }
 
-// Whether p is among the first n corners from the place `from` on.
-fn recurs_from(pts: [Point2; 16], n: usize, p: Point2, from: usize) -> bool
-    requires { ⌜ n ≤ 16 ⌝ }
-    ensures { λ r. ⌜ r ≡ any (samePoint p) (drop from (take n pts)) ⌝ }
-{
-    let mut found = false;
-    let mut j = from;
-    while j < n {
-        let q = pts[j];
-        found = found | same_point(p, q);
-        j += 1;
-    }
-    found
-}
-
+// Each corner p at i with each q after it, until two are alike.
 fn has_duplicate(pts: [Point2; 16], n: usize) -> bool
     requires { ⌜ n ≤ 16 ⌝ }
     ensures { λ r. ⌜ r ≡ any recurs (tails (take n pts)) ⌝ }
 {
-    let mut found = false;
-    let mut i: usize = 0;
-    while i < n {
-        let p = pts[i];
-        found = found | recurs_from(pts, n, p, i + 1);
-        i += 1;
+    if n < 2 {
+        return false;
     }
-    found
+    let mut i: usize = 0;
+    let mut j: usize = 1;
+    let mut p = pts[0];
+    loop {
+        let q = pts[j];
+        if same_point(p, q) {
+            return true;
+        }
+        j += 1;
+        if j >= n {
+            i += 1;
+            j = i + 1;
+            if j >= n {
+                return false;
+            }
+            p = pts[i];
+        }
+    }
 }
 
 // The size of a turn goes by its two sides; its sign, in cross2, by the first corner.
@@ -183,25 +208,8 @@ fn flat_turn(a: Point2, b: Point2, c: Point2) -> bool
     let ab_e = b.e - a.e;
     let bc_n = c.n - b.n;
     let bc_e = c.e - b.e;
-    float32::fabsf(ab_n * bc_e - ab_e * bc_n) < 1e-4
-}
-
-fn has_flat_turn(pts: [Point2; 16], n: usize) -> bool
-    requires { ⌜ n ≤ 16 ⌝ }
-    ensures { λ r. ⌜ r ≡ any flatTurn (turns (take n pts)) ⌝ }
-{
-    let mut found = false;
-    let mut i: usize = 0;
-    while i < n {
-        let j = next(i, n);
-        let k = next(j, n);
-        let a = pts[i];
-        let b = pts[j];
-        let c = pts[k];
-        found = found | flat_turn(a, b, c);
-        i += 1;
-    }
-    found
+    let x = ab_n * bc_e - ab_e * bc_n;
+    (x < 1e-4) & (x > -1e-4)
 }
 
 fn cross2(o: Point2, a: Point2, b: Point2) -> f32
@@ -210,68 +218,75 @@ fn cross2(o: Point2, a: Point2, b: Point2) -> f32
     (a.n - o.n) * (b.e - o.e) - (a.e - o.e) * (b.n - o.n)
 }
 
-fn has_mixed_turns(pts: [Point2; 16], n: usize) -> bool
-    requires { ⌜ n ≤ 16 ⌝ }
-    ensures { λ r. ⌜ r ≡ mixedTurns (take n pts) ⌝ }
-{
-    let mut pos = false;
-    let mut neg = false;
-    let mut i: usize = 0;
-    while i < n {
-        let j = next(i, n);
-        let k = next(j, n);
-        let a = pts[i];
-        let b = pts[j];
-        let c = pts[k];
-        let x = cross2(a, b, c);
-        pos = pos | (x > 0.0);
-        neg = neg | (x < 0.0);
-        i += 1;
-    }
-    pos & neg
-}
-
 fn area_term(a: Point2, b: Point2) -> f32
     ensures { λ r. ⌜ r ≡ areaTerm (a, b) ⌝ }
 {
     a.n * b.e - b.n * a.e
 }
 
-fn polygon_area(pts: [Point2; 16], n: usize) -> f32
+// All that one way round the corners tells: each corner is handed on from turn to turn.
+fn go_round(pts: [Point2; 16], n: usize) -> Round
     requires { ⌜ n ≤ 16 ⌝ }
-    ensures { λ r. ⌜ r ≡ polygonArea (take n pts) ⌝ }
+    ensures { λ r. ⌜ r ≡ roundOf (take n pts) ⌝ }
 {
+    let mut failed = false;
+    let mut flat = false;
+    let mut pos = false;
+    let mut neg = false;
     let mut area: f32 = 0.0;
     let mut i: usize = 0;
+    let mut k = wrapped(2, n);
+    let second = wrapped(1, n);
+    let mut a = pts[0];
+    let mut b = pts[second];
     while i < n {
-        let j = next(i, n);
-        let a = pts[i];
-        let b = pts[j];
+        let c = pts[k];
+        let x = cross2(a, b, c);
+        failed = failed | corner_failed(a);
+        flat = flat | flat_turn(a, b, c);
+        pos = pos | (x > 0.0);
+        neg = neg | (x < 0.0);
         area = area + area_term(a, b);
+        a = b;
+        b = c;
+        k = wrapped(k + 1, n);
         i += 1;
     }
-    area * 0.5
+    Round {
+        failed: failed,
+        flat: flat,
+        pos: pos,
+        neg: neg,
+        area: area * 0.5,
+    }
 }
 
 // The first error of n corners, of which the array has the first m.
-fn polygon_fault(pts: [Point2; 16], n: usize, m: usize, area: f32) -> FenceResult
-    requires { ⌜ (m ≤ 16) × (area ≡ polygonArea (take m pts)) ⌝ }
-    ensures { λ r. ⌜ r ≡ polygonFault n (take m pts) ⌝ }
+fn polygon_fault(pts: [Point2; 16], n: usize, m: usize, r: Round) -> FenceResult
+    requires { ⌜ (m ≤ 16) × (r ≡ roundOf (take m pts)) ⌝ }
+    ensures { λ v. ⌜ v ≡ polygonFault n (take m pts) ⌝ }
 {
-    let few = fault_if(n < 3, FenceError::TooFewVertices);
-    let many = fault_if(n > 16, FenceError::TooManyVertices);
-    let corners = corners_fault(pts, m);
-    let duplicate = fault_if(has_duplicate(pts, m), FenceError::DuplicateVertex);
-    let collinear = fault_if(has_flat_turn(pts, m), FenceError::CollinearEdge);
-    let mixed = fault_if(has_mixed_turns(pts, m), FenceError::NotConvex);
-    let size = float32::fabsf(area);
-    let small = fault_if(size < 100.0, FenceError::AreaTooSmall);
-    few.and(many)
-        .and(corners)
-        .and(duplicate)
-        .and(collinear)
-        .and(mixed)
-        .and(small)
+    let duplicate = has_duplicate(pts, m);
+    let size = float32::fabsf(r.area);
+    if n < 3 {
+        return FenceResult::Err(FenceError::TooFewVertices);
+    }
+    if n > 16 {
+        return FenceResult::Err(FenceError::TooManyVertices);
+    }
+    if r.failed {
+        return corners_fault(pts, m);
+    }
+    if duplicate {
+        return FenceResult::Err(FenceError::DuplicateVertex);
+    }
+    if r.flat {
+        return FenceResult::Err(FenceError::CollinearEdge);
+    }
+    if r.pos & r.neg {
+        return FenceResult::Err(FenceError::NotConvex);
+    }
+    fault_if(size < 100.0, FenceError::AreaTooSmall)
 }
 
 // The corner that is held at the place i.
@@ -347,6 +362,7 @@ fn nearer(min_sd: f32, sd: f32) -> f32
     if sd < min_sd { sd } else { min_sd }
 }
 
+// Each corner is handed on to the next side; the last side ends at the first corner.
 pub fn signed_distance_by(poly: ConvexPolygon, lengths: SideLengths, p: Point2) -> f32
     ensures { λ r. ⌜ r ≡ signedDistanceBy (ringOf poly) (lengths .m) p ⌝ }
 {
@@ -355,16 +371,19 @@ pub fn signed_distance_by(poly: ConvexPolygon, lengths: SideLengths, p: Point2) 
         return -1.0;
     }
     let mut min_sd = float32::infinity();
+    let mut a = poly.verts[0];
     let mut i: usize = 0;
-    while i < n {
-        let j = next(i, n);
-        let a = poly.verts[i];
+    while i + 1 < n {
+        let j = i + 1;
         let b = poly.verts[j];
         let len = lengths.m[i];
         min_sd = nearer(min_sd, edge_signed_distance(a, b, len, p));
-        i += 1;
+        a = b;
+        i = j;
     }
-    min_sd
+    let first = poly.verts[0];
+    let last = lengths.m[i];
+    nearer(min_sd, edge_signed_distance(a, first, last, p))
 }
 
 impl ConvexPolygon {
@@ -373,9 +392,9 @@ impl ConvexPolygon {
         ensures { λ r. ⌜ r ≡ polygonNew n (take n pts) ⌝ }
     {
         let m = capped(n);
-        let area = polygon_area(pts, m);
-        let result = polygon_fault(pts, n, m, area);
-        let poly = normalize_ccw(pts, m, area > 0.0);
+        let r = go_round(pts, m);
+        let result = polygon_fault(pts, n, m, r);
+        let poly = normalize_ccw(pts, m, r.area > 0.0);
         PolygonResult {
             result: result,
             poly: poly,

@@ -1,8 +1,10 @@
 // Values that may be absent and enums, in a frame: tested, read and written. An absent value is all zero bytes.
 ghost use mathlib.Core.Path.{_≡_};
+ghost use mathlib.Core.List.{_∷_};
 ghost use Prim.Native.Nat.{_+_, _^_, _<_, _≤_, min};
 ghost use lib.ListN.{length};
 ghost use lib.Seq.{sets};
+ghost use Rattle.wire.specs.Fields.{u32At, le32};
 ghost use Rattle.options.specs.Enums.{actionAt, reasonAt, leAction, leReason};
 ghost use Rattle.options.specs.Options.{zeros, validOption, isSomeU8, u8OrZero, optionU8At, leOptionU8, isSomeU32, u32OrZero, optionU32At, leOptionU32, isSomeF32, f32OrZero, optionF32At, leOptionF32};
 ghost use Rattle.options.specs.Position.{vec3At, leVec3, zeroSample, isSomePosition, positionOrZero, optionPositionAt, leOptionPosition};
@@ -17,6 +19,14 @@ use types::PositionSample;
 use types::Reason;
 use types::Vec3;
 
+// The number of four bytes that are all within the slice.
+fn word(s: &[u8], at: usize) -> u32
+    requires { ⌜ at + 4 ≤ length (now s) ⌝ }
+    ensures { λ r. ⌜ r ≡ u32At (now (s .entry)) at ⌝ }
+{
+    wire::quad(s[at], s[at + 1], s[at + 2], s[at + 3])
+}
+
 // Whether the `n` bytes from `at` on, all within the slice, are 0: four at a time.
 fn zero_words(s: &[u8], at: usize, n: usize) -> bool
     requires { ⌜ at + n ≤ length (now s) ⌝ }
@@ -25,8 +35,7 @@ fn zero_words(s: &[u8], at: usize, n: usize) -> bool
     let mut zero = true;
     let mut i: usize = 0;
     while 3 < n - i {
-        let j = at + i;
-        zero = zero & (wire::quad(s[j], s[j + 1], s[j + 2], s[j + 3]) == 0);
+        zero = zero & (word(s, at + i) == 0);
         i += 4;
     }
     zero & zero_bytes(s, at + i, n - i)
@@ -133,12 +142,32 @@ pub fn option_u32_at(s: &[u8], at: usize) -> OptionU32
     }
 }
 
+// A flag's byte and a number after it, all within the slice.
+fn put_flagged(s: &mut [u8], at: usize, flag: u8, n: u32)
+    requires { ⌜ at + 5 ≤ length (now s) ⌝ }
+    ensures { λ _. ⌜ now (s .exit) ≡ sets (now (s .entry)) at (flag ∷ le32 n) ⌝ }
+{
+    s[at] = flag;
+    s[at + 1] = (n % 256) as u8;
+    s[at + 2] = (n / 256 % 256) as u8;
+    s[at + 3] = (n / 65536 % 256) as u8;
+    s[at + 4] = (n / 16777216 % 256) as u8;
+}
+
+// Where all five bytes are within the slice, they are written with no further test.
 pub fn put_option_u32(s: &mut [u8], at: usize, o: OptionU32)
     ensures { λ _. ⌜ now (s .exit) ≡ sets (now (s .entry)) at (leOptionU32 o) ⌝ }
 {
     if at < s.len() {
-        wire::put_flag(s, at, is_some_u32(o));
-        wire::put_u32(s, at + 1, u32_or_zero(o));
+        if at + 4 < s.len() {
+            match o {
+                OptionU32::Some(n) => put_flagged(s, at, 1, n),
+                OptionU32::None => put_flagged(s, at, 0, 0),
+            }
+        } else {
+            wire::put_flag(s, at, is_some_u32(o));
+            wire::put_u32(s, at + 1, u32_or_zero(o));
+        }
     }
 }
 
@@ -190,6 +219,17 @@ fn vec3_at(s: &[u8], at: usize) -> Vec3
     }
 }
 
+fn vec3_in(s: &[u8], at: usize) -> Vec3
+    requires { ⌜ at + 12 ≤ length (now s) ⌝ }
+    ensures { λ r. ⌜ r ≡ vec3At (now (s .entry)) at ⌝ }
+{
+    Vec3 {
+        n: wire::f32_of(word(s, at)),
+        e: wire::f32_of(word(s, at + 4)),
+        d: wire::f32_of(word(s, at + 8)),
+    }
+}
+
 fn put_vec3(s: &mut [u8], at: usize, v: Vec3)
     requires { ⌜ at < 2 ^ 63 + 2 ^ 16 ⌝ }
     ensures { λ _. ⌜ now (s .exit) ≡ sets (now (s .entry)) at (leVec3 v) ⌝ }
@@ -232,7 +272,8 @@ fn position_or_zero(o: OptionPositionSample) -> PositionSample
     }
 }
 
-pub fn option_position_at(s: &[u8], at: usize) -> OptionPositionSample
+// A reading whose bytes may reach past the end.
+fn position_past(s: &[u8], at: usize) -> OptionPositionSample
     ensures { λ r. ⌜ r ≡ optionPositionAt (now (s .entry)) at ⌝ }
 {
     if wire::flag_at(s, at) {
@@ -243,6 +284,33 @@ pub fn option_position_at(s: &[u8], at: usize) -> OptionPositionSample
     } else {
         OptionPositionSample::None
     }
+}
+
+// A reading whose bytes are all within the slice.
+fn position_in(s: &[u8], at: usize) -> OptionPositionSample
+    requires { ⌜ at + 29 ≤ length (now s) ⌝ }
+    ensures { λ r. ⌜ r ≡ optionPositionAt (now (s .entry)) at ⌝ }
+{
+    if s[at] == 1 {
+        let t_ms = word(s, at + 1);
+        let pos = vec3_in(s, at + 5);
+        let vel = vec3_in(s, at + 17);
+        OptionPositionSample::Some(PositionSample { t_ms, pos, vel })
+    } else {
+        OptionPositionSample::None
+    }
+}
+
+// Where all 29 bytes are within the slice, they are read with no further test.
+pub fn option_position_at(s: &[u8], at: usize) -> OptionPositionSample
+    ensures { λ r. ⌜ r ≡ optionPositionAt (now (s .entry)) at ⌝ }
+{
+    if at < s.len() {
+        if at + 28 < s.len() {
+            return position_in(s, at);
+        }
+    }
+    position_past(s, at)
 }
 
 pub fn put_option_position(s: &mut [u8], at: usize, o: OptionPositionSample)

@@ -100,6 +100,6 @@ pub last-arm : (k n : ℕ) → NoneBelow n k → k ≤ n
 last-arm zero n h = zero-le
 last-arm (suc k) n h = let e = last-arm k n (h .0) in let f = h .1 in omega arith
 
--- a turn of the loop over the slots takes the next one in
-pub turn : (b : Request) (l : List Slot) (i : ℕ) (d : Slot) → i < length l → highest (higherRequest b (getD l i d)) (drop (i + 1) l) ≡ highest b (drop i l)
-turn b l i d h = rw (add-one, drop-cons l i d h)
+-- taking the next slot in
+pub taken-in : (b r : Request) (l : List Slot) (i : ℕ) (d : Slot) → i < length l → r ≡ higherRequest b (getD l i d) → highest b (drop i l) ≡ highest r (drop (i + 1) l)
+taken-in b r l i d h e = rw (e, add-one, drop-cons l i d h)

@@ -434,19 +434,34 @@ impl ActiveSet {
         self
     }
 
+    // Slot by slot and not by a loop: where each index is known, absent slots cost one test each.
     pub fn requested_action(self) -> Request
         ensures { λ r. ⌜ r ≡ requestedAction (self .reqs) ⌝ }
     {
+        let r = self.reqs;
         let mut best = Request {
             reason: Reason::None,
             action: Action::Nominal,
         };
-        let mut i: usize = 0;
-        while i < 19 {
-            let s = self.reqs[i];
-            best = higher_request(best, s);
-            i += 1;
-        }
+        best = higher_request(best, r[0]);
+        best = higher_request(best, r[1]);
+        best = higher_request(best, r[2]);
+        best = higher_request(best, r[3]);
+        best = higher_request(best, r[4]);
+        best = higher_request(best, r[5]);
+        best = higher_request(best, r[6]);
+        best = higher_request(best, r[7]);
+        best = higher_request(best, r[8]);
+        best = higher_request(best, r[9]);
+        best = higher_request(best, r[10]);
+        best = higher_request(best, r[11]);
+        best = higher_request(best, r[12]);
+        best = higher_request(best, r[13]);
+        best = higher_request(best, r[14]);
+        best = higher_request(best, r[15]);
+        best = higher_request(best, r[16]);
+        best = higher_request(best, r[17]);
+        best = higher_request(best, r[18]);
         best
     }
 }

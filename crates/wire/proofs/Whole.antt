@@ -1,9 +1,10 @@
--- A list of known length as its elements, and every test of a row that holds. At a numeral n, `elementsFrom` computes to n elements, so that what stands
+-- A list of known length as its elements, and the tests of a row, one by one. At a numeral n, `elementsFrom` computes to n elements, so that what stands
 -- at a place can be compared element by element. Assumes nothing.
 use Prim.Native.Nat.{ℕ, zero, suc, _+_, _≤_}
 use mathlib.Core.Path.{_≡_, _∙_, ap, refl, sym}
 use mathlib.Core.List.{List, [], _∷_, _++_}
 use mathlib.Core.Bool.{Bool, true, false, _&&_, false≢true}
+use mathlib.Core.Logic.{_⊎_, ⊎-elim}
 use native.Mathlib.Numerals.{add-one}
 use native.Mathlib.Nat.{zero-add, add-zero, suc-add}
 use native.Mathlib.Omega.{arith}
@@ -46,3 +47,17 @@ Each (t ∷ ts) = (t ≡ true) × Each ts
 pub each : (b : Bool) (ts : List Bool) → allTrue b ts ≡ true → (b ≡ true) × Each ts
 each b [] e = (e, tt)
 each b (t ∷ ts) e = let r = each (b && t) ts e in (first b t (r .0), (second b t (r .0), r .1))
+
+-- a row of tests, each made only where those before it held
+pub data Tested : Bool → List Bool → Bool → Type 0 where
+  done : {p : Bool} → Tested p [] p
+  next : {p q v : Bool} {ts : List Bool} (r : Bool) → r ≡ (p && q) → Tested r ts v → Tested p (q ∷ ts) v
+
+pub tested : (p : Bool) (ts : List Bool) (v : Bool) → Tested p ts v → v ≡ allTrue p ts
+tested p [] v done = refl
+tested p (q ∷ ts) v (next r e rest) = tested r ts v rest ∙ ap (λ (b : Bool). allTrue b ts) e
+
+-- `p` held and the next test gave `r`, or `p` failed and `r` is `p`
+pub joins : {T E : Type 0} {p q r : Bool} → T ⊎ E → (T → (p ≡ true) × (r ≡ q)) → (E → (p ≡ false) × (r ≡ p)) → r ≡ (p && q)
+joins {q = q} came t e =
+    ⊎-elim (λ w. t w .1 ∙ sym (ap (λ (b : Bool). b && q) (t w .0))) (λ w. e w .1 ∙ e w .0 ∙ sym (ap (λ (b : Bool). b && q) (e w .0))) came

@@ -2,6 +2,7 @@
 // bytes of 0; writing changes only what lies within the slice.
 ghost use mathlib.Core.Path.{_≡_};
 ghost use Prim.Native.Nat.{_+_, _*_};
+ghost use lib.Ieee.{binary32, ofBits};
 ghost use lib.Seq.{sets};
 ghost use Rattle.wire.specs.Fields.{u8At, u16At, u32At, f32At, flagAt, byteBelow, le8, le16, le32, leF32, leFlag};
 ghost use Rattle.wire.specs.Frame.{frameFault, frameHead};
@@ -23,6 +24,13 @@ fn halves(a: u16, b: u16) -> u32
     ensures { λ r. ⌜ r ≡ a + 65536 * b ⌝ }
 {
     (a as u32) + 65536 * (b as u32)
+}
+
+// The float of a pattern.
+pub fn f32_of(n: u32) -> f32
+    ensures { λ r. ⌜ r ≡ ofBits binary32 n ⌝ }
+{
+    float32::from_bits(n)
 }
 
 pub fn u8_at(s: &[u8], at: usize) -> u8

@@ -1,8 +1,10 @@
 //! How long a step takes: the port's entry, the plain Rust entry, and `Supervisor::step` alone, on the same
-//! frames, in rounds that take turns; then `decide` beside the Rust program on one stream.
+//! frames, in rounds that take turns; frames read and written anew; then `decide` beside the Rust program on one stream.
 //!   bench [PORT_DECIDE RUST_DECIDE STREAM]
 //! Nothing here passes or fails.
 
+#[cfg(not(feature = "standin"))]
+mod again;
 mod clock;
 mod parts;
 mod programs;
@@ -101,7 +103,8 @@ pub fn ratio(a: [f64; 2], b: [f64; 2]) -> [f64; 2] {
     [a[0] / b[0], a[1] / b[1]]
 }
 
-fn entries(what: &str, setup: &Setup) {
+/// Times the entries, and hands the flights on.
+fn entries(what: &str, setup: &Setup) -> Vec<Flight> {
     let mut random = Random::new(7);
     let flights: Vec<Flight> = (0..FLIGHTS).map(|_| flight(&mut random, setup)).collect();
     let sides: [(&str, &dyn Fn()); 3] = [
@@ -133,11 +136,16 @@ fn entries(what: &str, setup: &Setup) {
     tell("failsafe_step / Supervisor::step", ratio(port, step), 3);
     tell("plain Rust entry / Supervisor::step", ratio(rust, step), 3);
     parts::parts(&flights[0]);
+    flights
 }
 
 fn main() {
     let default = Setup::defaults();
-    entries("default configuration, fence of 4 corners", &default);
+    let flights = entries("default configuration, fence of 4 corners", &default);
+    #[cfg(not(feature = "standin"))]
+    again::again(&flights[0]);
+    #[cfg(feature = "standin")]
+    drop(flights);
     let ring = random::circle(&mut Random::new(3), 16, 500.0, (0.0, 0.0));
     let round = Setup::of(&default.cfg, fence_frame(5.0, 120.0, &ring));
     entries(

@@ -4,7 +4,9 @@ use mathlib.Core.Path.{_≡_, _∙_, ap, sym}
 use denote.Ref.{now}
 use borrow.Author.Tests.{eq-eqb, ne-eqb}
 use Prim.Native.Nat.{_+_, _*_, min}
+use native.Mathlib.Omega.{arith}
 use Rattle.wire.specs.Frame.{frameFault}
+use Rattle.wire.proofs.Head.{head-says}
 use Rattle.frame_fence.specs.FenceFrame.{cornersAt, cornerArray, cornersSent, fenceFault, refusedFence, readFence}
 use borrow.Author.Needs.{needs}
 use Rattle.frame_fence.proofs.read_fence.Statement.{statement}
@@ -28,8 +30,12 @@ f32-at-requires-2 c κs = search needs
 capped-requires : tie.Need-capped-requires
 capped-requires c κs = search needs
 
+-- no fault: the frame is as long as its count says
 corners-at-requires : tie.Need-corners-at-requires
-corners-at-requires c κs = search needs
+corners-at-requires c κs =
+    let s = now (c .before .before .before .before .before .before .before .before .args .s) in
+    let h = head-says 2 (c .before .before .before .before .before .length-due .result) s (sym (c .before .before .before .before .frame-fault .ensures) ∙ c .before .before .before .if1 .taken) in
+    (search needs, omega (arith, h .1 .1))
 
 refused-fence-requires : tie.Need-refused-fence-requires
 refused-fence-requires c κs = search needs

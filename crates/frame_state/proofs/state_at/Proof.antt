@@ -6,8 +6,7 @@ use Rattle.frame_state.proofs.state_at.Tie as tie
 returns : tie.Need-returns
 unfolding stateAt
 returns c =
-    let c8 = c .before in
-    let c7 = c8 .before in
+    let c7 = c .before in
     let c6 = c7 .before in
     let c5 = c6 .before in
     let c4 = c5 .before in
@@ -19,10 +18,10 @@ returns c =
       triggers = c1 .triggers-at .ensures i;
       arbiter = c2 .arbiter-at .ensures i;
       disarm = record { «hold_since_ms» = c3 .option-u32-at .ensures i };
-      glitch = record { «last_accepted» = c4 .option-position-at .ensures i; «reject_streak» = c5 .u8-at .ensures i };
-      «last_now» = c6 .option-u32-at2 .ensures i;
-      «epoch_start» = c7 .u32-at .ensures i;
-      «backwards_streak» = c8 .u8-at2 .ensures i;
+      glitch = record { «last_accepted» = c1 .before .before .pre i; «reject_streak» = c4 .u8-at .ensures i };
+      «last_now» = c5 .option-u32-at2 .ensures i;
+      «epoch_start» = c6 .u32-at .ensures i;
+      «backwards_streak» = c7 .u8-at2 .ensures i;
       initialized = c .flag-at .ensures i;
     }
 
@@ -30,7 +29,6 @@ pub state-at-spec : {M : Type 1} → statement M
 state-at-spec =
     tie.close
     (tie.spec
-    (λ c κs. tt)
     (λ c κs. tt)
     (λ c κs. tt)
     (λ c κs. tt)

@@ -1,84 +1,72 @@
--- `frame_telemetry::telemetry_valid` meets its contract. Assumes nothing.
-use mathlib.Core.Bool.{_&&_}
+-- `frame_telemetry::telemetry_valid` meets its contract: test by test, by what each call ensures. Assumes nothing.
+use mathlib.Core.Bool.{Bool, _&&_}
+use mathlib.Core.Path.{_∙_, ap}
+use denote.Ref.{now}
+use Rattle.wire.specs.Frame.{allTrue}
+use Rattle.wire.proofs.Whole.{done, next, tested, joins}
 use Rattle.frame_telemetry.specs.TelemetryFrame.{telemetryTests, telemetryValid}
-use borrow.Author.Needs.{needs}
 use Rattle.frame_telemetry.proofs.telemetry_valid.Statement.{statement}
 use Rattle.frame_telemetry.proofs.telemetry_valid.Tie as tie
 
-option-valid-requires : tie.Need-option-valid-requires
-option-valid-requires c κs = search needs
-
-option-valid-requires-2 : tie.Need-option-valid-requires-2
-option-valid-requires-2 c κs = search needs
-
-byte-below-requires : tie.Need-byte-below-requires
-byte-below-requires c κs = search needs
-
-option-valid-requires-3 : tie.Need-option-valid-requires-3
-option-valid-requires-3 c κs = search needs
-
-option-valid-requires-4 : tie.Need-option-valid-requires-4
-option-valid-requires-4 c κs = search needs
-
-option-valid-requires-5 : tie.Need-option-valid-requires-5
-option-valid-requires-5 c κs = search needs
-
-option-valid-requires-6 : tie.Need-option-valid-requires-6
-option-valid-requires-6 c κs = search needs
-
-option-valid-requires-7 : tie.Need-option-valid-requires-7
-option-valid-requires-7 c κs = search needs
-
-option-valid-requires-8 : tie.Need-option-valid-requires-8
-option-valid-requires-8 c κs = search needs
-
-option-valid-requires-9 : tie.Need-option-valid-requires-9
-option-valid-requires-9 c κs = search needs
-
-byte-below-requires-2 : tie.Need-byte-below-requires-2
-byte-below-requires-2 c κs = search needs
-
-option-valid-requires-10 : tie.Need-option-valid-requires-10
-option-valid-requires-10 c κs = search needs
-
-byte-below-requires-3 : tie.Need-byte-below-requires-3
-byte-below-requires-3 c κs = search needs
-
-option-valid-requires-11 : tie.Need-option-valid-requires-11
-option-valid-requires-11 c κs = search needs
-
-byte-below-requires-4 : tie.Need-byte-below-requires-4
-byte-below-requires-4 c κs = search needs
-
-option-valid-requires-12 : tie.Need-option-valid-requires-12
-option-valid-requires-12 c κs = search needs
-
-byte-below-requires-5 : tie.Need-byte-below-requires-5
-byte-below-requires-5 c κs = search needs
-
 returns : tie.Need-returns
 unfolding telemetryTests telemetryValid
-returns c = λ j. ((((((((((((((((c .before .before .before .before .before .before .before .before .before .before .before .before .before .before .before .before .option-valid .ensures j && c .before .before .before .before .before .before .before .before .before .before .before .before .before .before .before .option-valid2 .ensures j) && c .before .before .before .before .before .before .before .before .before .before .before .before .before .before .byte-below .ensures j) && c .before .before .before .before .before .before .before .before .before .before .before .before .before .option-valid3 .ensures j) && c .before .before .before .before .before .before .before .before .before .before .before .before .option-valid4 .ensures j) && c .before .before .before .before .before .before .before .before .before .before .before .option-valid5 .ensures j) && c .before .before .before .before .before .before .before .before .before .before .option-valid6 .ensures j) && c .before .before .before .before .before .before .before .before .before .option-valid7 .ensures j) && c .before .before .before .before .before .before .before .before .option-valid8 .ensures j) && c .before .before .before .before .before .before .before .option-valid9 .ensures j) && c .before .before .before .before .before .before .byte-below2 .ensures j) && c .before .before .before .before .before .option-valid10 .ensures j) && c .before .before .before .before .byte-below3 .ensures j) && c .before .before .before .option-valid11 .ensures j) && c .before .before .byte-below4 .ensures j) && c .before .option-valid12 .ensures j) && c .byte-below5 .ensures j)
+returns c =
+    let j15 = c .before in
+    let j14 = j15 .before in
+    let j13 = j14 .before in
+    let j12 = j13 .before in
+    let j11 = j12 .before in
+    let j10 = j11 .before in
+    let j9 = j10 .before in
+    let j8 = j9 .before in
+    let j7 = j8 .before in
+    let j6 = j7 .before in
+    let j5 = j6 .before in
+    let j4 = j5 .before in
+    let j3 = j4 .before in
+    let j2 = j3 .before in
+    let j1 = j2 .before in
+    let first = j1 .before .option-valid in
+    let ts = telemetryTests (now (j1 .before .before .before .args .s)) in
+    tested (first .result) ts _
+    (next (j1 .if1 .v) (joins (j1 .if1 .came) (λ w. (w .0 .taken, w .2 ∙ w .1 .ensures)) (λ w. (w .0 .left, w .1)))
+    (next (j2 .if2 .v) (joins (j2 .if2 .came) (λ w. (w .0 .taken, w .2 ∙ w .1 .ensures)) (λ w. (w .0 .left, w .1)))
+    (next (j3 .if3 .v) (joins (j3 .if3 .came) (λ w. (w .0 .taken, w .2 ∙ w .1 .ensures)) (λ w. (w .0 .left, w .1)))
+    (next (j4 .if4 .v) (joins (j4 .if4 .came) (λ w. (w .0 .taken, w .2 ∙ w .1 .ensures)) (λ w. (w .0 .left, w .1)))
+    (next (j5 .if5 .v) (joins (j5 .if5 .came) (λ w. (w .0 .taken, w .2 ∙ w .1 .ensures)) (λ w. (w .0 .left, w .1)))
+    (next (j6 .if6 .v) (joins (j6 .if6 .came) (λ w. (w .0 .taken, w .2 ∙ w .1 .ensures)) (λ w. (w .0 .left, w .1)))
+    (next (j7 .if7 .v) (joins (j7 .if7 .came) (λ w. (w .0 .taken, w .2 ∙ w .1 .ensures)) (λ w. (w .0 .left, w .1)))
+    (next (j8 .if8 .v) (joins (j8 .if8 .came) (λ w. (w .0 .taken, w .2 ∙ w .1 .ensures)) (λ w. (w .0 .left, w .1)))
+    (next (j9 .if9 .v) (joins (j9 .if9 .came) (λ w. (w .0 .taken, w .2 ∙ w .1 .ensures)) (λ w. (w .0 .left, w .1)))
+    (next (j10 .if10 .v) (joins (j10 .if10 .came) (λ w. (w .0 .taken, w .2 ∙ w .1 .ensures)) (λ w. (w .0 .left, w .1)))
+    (next (j11 .if11 .v) (joins (j11 .if11 .came) (λ w. (w .0 .taken, w .2 ∙ w .1 .ensures)) (λ w. (w .0 .left, w .1)))
+    (next (j12 .if12 .v) (joins (j12 .if12 .came) (λ w. (w .0 .taken, w .2 ∙ w .1 .ensures)) (λ w. (w .0 .left, w .1)))
+    (next (j13 .if13 .v) (joins (j13 .if13 .came) (λ w. (w .0 .taken, w .2 ∙ w .1 .ensures)) (λ w. (w .0 .left, w .1)))
+    (next (j14 .if14 .v) (joins (j14 .if14 .came) (λ w. (w .0 .taken, w .2 ∙ w .1 .ensures)) (λ w. (w .0 .left, w .1)))
+    (next (j15 .if15 .v) (joins (j15 .if15 .came) (λ w. (w .0 .taken, w .2 ∙ w .1 .ensures)) (λ w. (w .0 .left, w .1)))
+    (next _ (ap (λ (b : Bool). j15 .if15 .v && b) (c .byte-below5 .ensures))
+    done))))))))))))))))
+    ∙ ap (λ (b : Bool). allTrue b ts) (first .ensures)
 
 pub telemetry-valid-spec : {M : Type 1} → statement M
 telemetry-valid-spec =
     tie.close
     (tie.spec
-    option-valid-requires
-    option-valid-requires-2
-    byte-below-requires
-    option-valid-requires-3
-    option-valid-requires-4
-    option-valid-requires-5
-    option-valid-requires-6
-    option-valid-requires-7
-    option-valid-requires-8
-    option-valid-requires-9
-    byte-below-requires-2
-    option-valid-requires-10
-    byte-below-requires-3
-    option-valid-requires-11
-    byte-below-requires-4
-    option-valid-requires-12
-    byte-below-requires-5
+    (λ c κs. tt)
+    (λ c κs. tt)
+    (λ c κs. tt)
+    (λ c κs. tt)
+    (λ c κs. tt)
+    (λ c κs. tt)
+    (λ c κs. tt)
+    (λ c κs. tt)
+    (λ c κs. tt)
+    (λ c κs. tt)
+    (λ c κs. tt)
+    (λ c κs. tt)
+    (λ c κs. tt)
+    (λ c κs. tt)
+    (λ c κs. tt)
+    (λ c κs. tt)
+    (λ c κs. tt)
     returns)

@@ -1,83 +1,84 @@
 -- `polygon_fault` meets its contract. Assumes nothing.
+use mathlib.Core.Path.{sym, ap, _∙_}
+use mathlib.Core.Bool.{_&&_}
+use native.Mathlib.Omega.{arith}
 use borrow.Author.Needs.{needs}
-use Rattle.geometry.specs.Acceptance.{polygonTests}
+use Rattle.geometry.specs.declared.Round.{Round}
+use Rattle.geometry.proofs.Callers.{too-few, too-many}
+use Rattle.geometry.proofs.Around.{fault-corner, fault-duplicate, fault-flat, fault-mixed, fault-area}
 use Rattle.geometry.proofs.polygon_fault.Statement.{statement}
 use Rattle.geometry.proofs.polygon_fault.Tie as tie
-
-fault-if-requires : tie.Need-fault-if-requires
-fault-if-requires c κs = search needs
-
-fault-if-requires-2 : tie.Need-fault-if-requires-2
-fault-if-requires-2 c κs = search needs
-
-corners-fault-requires : tie.Need-corners-fault-requires
-corners-fault-requires c κs = search needs
 
 has-duplicate-requires : tie.Need-has-duplicate-requires
 has-duplicate-requires c κs = search needs
 
-fault-if-requires-3 : tie.Need-fault-if-requires-3
-fault-if-requires-3 c κs = search needs
-
-has-flat-turn-requires : tie.Need-has-flat-turn-requires
-has-flat-turn-requires c κs = search needs
-
-fault-if-requires-4 : tie.Need-fault-if-requires-4
-fault-if-requires-4 c κs = search needs
-
-has-mixed-turns-requires : tie.Need-has-mixed-turns-requires
-has-mixed-turns-requires c κs = search needs
-
-fault-if-requires-5 : tie.Need-fault-if-requires-5
-fault-if-requires-5 c κs = search needs
-
 fabsf-requires : tie.Need-fabsf-requires
 fabsf-requires c κs = search needs
 
-fault-if-requires-6 : tie.Need-fault-if-requires-6
-fault-if-requires-6 c κs = search needs
-
-and-requires : tie.Need-and-requires
-and-requires c κs = search needs
-
-and-requires-2 : tie.Need-and-requires-2
-and-requires-2 c κs = search needs
-
-and-requires-3 : tie.Need-and-requires-3
-and-requires-3 c κs = search needs
-
-and-requires-4 : tie.Need-and-requires-4
-and-requires-4 c κs = search needs
-
-and-requires-5 : tie.Need-and-requires-5
-and-requires-5 c κs = search needs
-
-and-requires-6 : tie.Need-and-requires-6
-and-requires-6 c κs = search needs
-
 returns : tie.Need-returns
-unfolding polygonTests
-returns c = rw (c .and6 .ensures, c .before .and5 .ensures, c .before .before .and4 .ensures, c .before .before .before .and3 .ensures, c .before .before .before .before .and2 .ensures, c .before .before .before .before .before .and .ensures, c .before .before .before .before .before .before .fault-if6 .ensures, c .before .before .before .before .before .before .before .fabsf .ensures, c .before .before .before .before .before .before .before .before .fault-if5 .ensures, c .before .before .before .before .before .before .before .before .before .has-mixed-turns .ensures, c .before .before .before .before .before .before .before .before .before .before .fault-if4 .ensures, c .before .before .before .before .before .before .before .before .before .before .before .has-flat-turn .ensures, c .before .before .before .before .before .before .before .before .before .before .before .before .fault-if3 .ensures, c .before .before .before .before .before .before .before .before .before .before .before .before .before .has-duplicate .ensures, c .before .before .before .before .before .before .before .before .before .before .before .before .before .before .corners-fault .ensures, c .before .before .before .before .before .before .before .before .before .before .before .before .before .before .before .fault-if2 .ensures, c .before .before .before .before .before .before .before .before .before .before .before .before .before .before .before .before .fault-if .ensures, c .before .before .before .before .before .before .before .before .before .before .before .before .before .before .before .before .before .pre .1)
+returns c = sym (too-few _ _ (c .if1 .taken))
+
+returns-2 : tie.Need-returns-2
+returns-2 c = sym (too-many _ _ (c .if2 .taken))
+
+corners-fault-requires : tie.Need-corners-fault-requires
+corners-fault-requires c κs = search needs
+
+returns-3 : tie.Need-returns-3
+returns-3 c =
+    let s = c .before .before .before .before .before .before in
+    c .corners-fault .ensures
+    ∙ sym (fault-corner (s .args .n) _ (omega arith) (omega arith) (ap (λ (r : Round). r .failed) (sym (s .pre .1)) ∙ c .before .if3 .taken))
+
+returns-4 : tie.Need-returns-4
+returns-4 c =
+    let s = c .before .before .before .before .before .before in
+    sym
+    (fault-duplicate (s .args .n) _ (omega arith) (omega arith) (ap (λ (r : Round). r .failed) (sym (s .pre .1)) ∙ c .before .if3 .left)
+    (sym (c .before .before .before .before .before .has-duplicate .ensures) ∙ c .if4 .taken))
+
+returns-5 : tie.Need-returns-5
+returns-5 c =
+    let s = c .before .before .before .before .before .before .before in
+    sym
+    (fault-flat (s .args .n) _ (omega arith) (omega arith) (ap (λ (r : Round). r .failed) (sym (s .pre .1)) ∙ c .before .before .if3 .left)
+    (sym (c .before .before .before .before .before .before .has-duplicate .ensures) ∙ c .before .if4 .left)
+    (ap (λ (r : Round). r .flat) (sym (s .pre .1)) ∙ c .if5 .taken))
+
+returns-6 : tie.Need-returns-6
+returns-6 c =
+    let s = c .before .before .before .before .before .before .before .before .before in
+    sym
+    (fault-mixed (s .args .n) _ (omega arith) (omega arith) (ap (λ (r : Round). r .failed) (sym (s .pre .1)) ∙ c .before .before .before .before .if3 .left)
+    (sym (c .before .before .before .before .before .before .before .before .has-duplicate .ensures) ∙ c .before .before .before .if4 .left)
+    (ap (λ (r : Round). r .flat) (sym (s .pre .1)) ∙ c .before .before .if5 .left)
+    (ap (λ (r : Round). r .pos && r .neg) (sym (s .pre .1)) ∙ c .if6 .taken))
+
+fault-if-requires : tie.Need-fault-if-requires
+fault-if-requires c κs = search needs
+
+returns-7 : tie.Need-returns-7
+returns-7 c =
+    let s = c .before .before .before .before .before .before .before .before .before .before in
+    rw (c .fault-if .ensures, c .before .before .before .before .before .before .before .before .fabsf .ensures, s .pre .1)
+    (sym
+    (fault-area (s .args .n) _ (omega arith) (omega arith) (ap (λ (r : Round). r .failed) (sym (s .pre .1)) ∙ c .before .before .before .before .before .if3 .left)
+    (sym (c .before .before .before .before .before .before .before .before .before .has-duplicate .ensures) ∙ c .before .before .before .before .if4 .left)
+    (ap (λ (r : Round). r .flat) (sym (s .pre .1)) ∙ c .before .before .before .if5 .left)
+    (ap (λ (r : Round). r .pos && r .neg) (sym (s .pre .1)) ∙ c .before .if6 .left)))
 
 pub polygon-fault-spec : {M : Type 1} → statement M
 polygon-fault-spec =
     tie.close
     (tie.spec
-    fault-if-requires
-    fault-if-requires-2
-    corners-fault-requires
     has-duplicate-requires
-    fault-if-requires-3
-    has-flat-turn-requires
-    fault-if-requires-4
-    has-mixed-turns-requires
-    fault-if-requires-5
     fabsf-requires
-    fault-if-requires-6
-    and-requires
-    and-requires-2
-    and-requires-3
-    and-requires-4
-    and-requires-5
-    and-requires-6
-    returns)
+    returns
+    returns-2
+    corners-fault-requires
+    returns-3
+    returns-4
+    returns-5
+    returns-6
+    fault-if-requires
+    returns-7)

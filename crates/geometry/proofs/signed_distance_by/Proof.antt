@@ -1,23 +1,27 @@
 -- `signed_distance_by` meets its contract. Assumes nothing.
-use mathlib.Core.Path.{_≡_, sym}
+use mathlib.Core.Path.{_≡_, refl, sym}
 use mathlib.Core.Bool.{false}
-use Prim.Native.Nat.{_≤_, _-_}
+use Prim.Native.Nat.{_+_, _<_, _≤_, _-_}
+use native.Mathlib.Nat.{mod-eq-of-lt}
 use native.Mathlib.Omega.{arith}
 use lib.Ieee.{inf, nan}
-use lib.ListN.{length, take, drop, length-map}
+use lib.ListN.{length, getD, take, drop, length-map}
 use borrow.Author.Needs.{needs}
 use Rattle.geometry.specs.Ring.{pairs, sides}
 use Rattle.geometry.specs.Distance.{edgeSignedDistanceBy, least}
-use Rattle.geometry.proofs.Laws.{side-beside, side-beside-end}
+use Rattle.geometry.proofs.Laws.{next-last, side-beside, side-beside-end}
 use Rattle.geometry.proofs.Hold.{nowhere, take-capped, length-capped, distance-few, distance-many}
 use Rattle.geometry.proofs.signed_distance_by.Statement.{statement}
 use Rattle.geometry.proofs.signed_distance_by.Tie as tie
 
 abbrev Inv-loop : tie.InvT-loop
-Inv-loop p poly lengths n min-sd₀ i₀ min-sd i = (i ≤ n) × (least (edgeSignedDistanceBy p) min-sd (drop i (pairs (sides (take n (poly .verts))) (lengths .m))) ≡ least (edgeSignedDistanceBy p) (inf false) (pairs (sides (take n (poly .verts))) (lengths .m)))
+Inv-loop p poly lengths n min-sd₀ a₀ i₀ min-sd a i =
+    (i < n)
+    × ((a ≡ getD (poly .verts) i nowhere)
+    × (least (edgeSignedDistanceBy p) min-sd (drop i (pairs (sides (take n (poly .verts))) (lengths .m))) ≡ least (edgeSignedDistanceBy p) (inf false) (pairs (sides (take n (poly .verts))) (lengths .m))))
 
 abbrev μ-loop : tie.MeasureT-loop
-μ-loop p poly lengths n min-sd₀ i₀ min-sd i = n - i
+μ-loop p poly lengths n min-sd₀ a₀ i₀ min-sd a i = n - i
 
 long : (c : tie.Start Inv-loop μ-loop) → length (c .args .t1 .verts) ≡ 16
 long c = simp length-map at (c .good .0 .1 .1 .0 .1 .0 .1)
@@ -37,17 +41,17 @@ returns c =
 infinity-requires : tie.Need-infinity-requires Inv-loop μ-loop
 infinity-requires c κs = search needs
 
-loop-holds : tie.Need-loop-holds Inv-loop μ-loop
-loop-holds c = (omega arith, rw (c .infinity .ensures))
-
-next-requires : tie.Need-next-requires Inv-loop μ-loop
-next-requires c κs = search needs
-
-mul-a : tie.Need-mul-a Inv-loop μ-loop
-mul-a c = omega arith
-
 element-copy-out-a : tie.Need-element-copy-out-a Inv-loop μ-loop
 element-copy-out-a c = omega arith
+
+loop-holds : tie.Need-loop-holds Inv-loop μ-loop
+loop-holds c = (omega arith, (refl, rw (c .before .infinity .ensures)))
+
+add-loop : tie.Need-add-loop Inv-loop μ-loop
+add-loop c = omega arith
+
+add-j : tie.Need-add-j Inv-loop μ-loop
+add-j c = omega arith
 
 mul-b : tie.Need-mul-b Inv-loop μ-loop
 mul-b c = omega arith
@@ -67,32 +71,56 @@ edge-signed-distance-requires c κs = search needs
 nearer-requires : tie.Need-nearer-requires Inv-loop μ-loop
 nearer-requires c κs = search needs
 
-add-i : tie.Need-add-i Inv-loop μ-loop
-add-i c = omega arith
-
 loop-less : tie.Need-loop-less Inv-loop μ-loop
 loop-less c = omega arith
 
 loop-again : tie.Need-loop-again Inv-loop μ-loop
 loop-again c =
-    let s = c .before .before .before .before .before .before .before .before .before .before .before in
-    let l = c .before .before .before .before .before .before .before .loop in
+    let s = c .before .before .before .before .before .before .before .before .before .before in
+    let l = c .before .before .before .before .before .loop in
     let v = s .args .t1 .verts in
-    let n = c .before .before .before .before .before .before .before .before .before .before .capped .result in
+    let n = c .before .before .before .before .before .before .before .before .before .capped .result in
     let r : n ≤ length v = omega (arith, long s) in
     let q : n ≤ length (s .args .t2 .m) = omega (arith, long-m s) in
-    (omega arith, rw (c .nearer .ensures, c .before .edge-signed-distance .ensures, c .before .before .before .before .before .next .ensures .0) (rw (side-beside v n r (s .args .t2 .m) (l .i) nowhere nan q (omega arith)) at (l .inv .1)))
+    let h : l .i + 1 < n = c .before .before .before .before .loop-test .taken in (
+      h,
+      (refl, rw (c .nearer .ensures, c .before .edge-signed-distance .ensures, l .inv .1 .0) (rw (side-beside v n r (s .args .t2 .m) (l .i) nowhere nan q (l .inv .0), mod-eq-of-lt h) at (l .inv .1 .1))),
+    )
+
+element-copy-out-first : tie.Need-element-copy-out-first Inv-loop μ-loop
+element-copy-out-first c = omega arith
+
+mul-last : tie.Need-mul-last Inv-loop μ-loop
+mul-last c = omega arith
+
+element-copy-out-last : tie.Need-element-copy-out-last Inv-loop μ-loop
+element-copy-out-last c = omega arith
+
+edge-signed-distance-requires-2 : tie.Need-edge-signed-distance-requires-2 Inv-loop μ-loop
+edge-signed-distance-requires-2 c κs = search needs
+
+nearer-requires-2 : tie.Need-nearer-requires-2 Inv-loop μ-loop
+nearer-requires-2 c κs = search needs
 
 returns-2 : tie.Need-returns-2 Inv-loop μ-loop
 returns-2 c =
-    let s = c .before .before .before .before .before in
+    let s = c .before .before .before .before .before .before .before .before .before .before in
+    let l = c .before .before .before .before .before .loop in
     let v = s .args .t1 .verts in
-    let n = c .before .before .before .before .capped .result in
+    let n = c .before .before .before .before .before .before .before .before .before .capped .result in
     let r : n ≤ length v = omega (arith, long s) in
     let q : n ≤ length (s .args .t2 .m) = omega (arith, long-m s) in
     let e = length-capped v (s .args .t1 .len) (long s) in
-    rw (distance-many (take (s .args .t1 .len) v) (s .args .t2 .m) (s .args .p) (omega arith), take-capped v (s .args .t1 .len) (long s), ← c .before .before .before .before .capped .ensures)
-    (rw (side-beside-end v n r (s .args .t2 .m) (c .before .loop .i) q (omega arith)) at (c .before .loop .inv .1))
+    let h : n ≤ l .i + 1 = omega arith in
+    rw (
+      distance-many (take (s .args .t1 .len) v) (s .args .t2 .m) (s .args .p) (omega arith),
+      take-capped v (s .args .t1 .len) (long s),
+      ← c .before .before .before .before .before .before .before .before .before .capped .ensures,
+      c .nearer2 .ensures,
+      c .before .edge-signed-distance2 .ensures,
+      l .inv .1 .0,
+    )
+    (rw (side-beside v n r (s .args .t2 .m) (l .i) nowhere nan q (l .inv .0), ← next-last (l .i) n (l .inv .0) h, side-beside-end v n r (s .args .t2 .m) (l .i + 1) q h) at (l .inv .1 .1))
 
 pub signed-distance-by-spec : {M : Type 1} → statement M
 signed-distance-by-spec =
@@ -103,17 +131,21 @@ signed-distance-by-spec =
     capped-requires
     returns
     infinity-requires
-    loop-holds
-    next-requires
-    mul-a
     element-copy-out-a
+    loop-holds
+    add-loop
+    add-j
     mul-b
     element-copy-out-b
     mul-len
     element-copy-out-len
     edge-signed-distance-requires
     nearer-requires
-    add-i
     loop-less
     loop-again
+    element-copy-out-first
+    mul-last
+    element-copy-out-last
+    edge-signed-distance-requires-2
+    nearer-requires-2
     returns-2)

@@ -6,9 +6,7 @@ use native.Mathlib.Nat.{add-zero, sub-zero}
 use mathlib.Core.Bool.{Bool, _&&_}
 use lib.Dec.{eqb}
 use denote.Ref.{now}
-use Rattle.wire.specs.Fields.{u8At}
 use Rattle.options.specs.Options.{zeros}
-use Rattle.wire.proofs.Number.{u32-is}
 use Rattle.options.proofs.Zeros.{zeros-turn, zeros-u32}
 use Rattle.options.proofs.zero_words.Statement.{statement}
 use Rattle.options.proofs.zero_words.Tie as tie
@@ -25,32 +23,11 @@ loop-holds c = (omega arith, rw (add-zero, sub-zero))
 sub-loop : tie.Need-sub-loop Inv-loop μ-loop
 sub-loop c = omega arith
 
-add-j : tie.Need-add-j Inv-loop μ-loop
-add-j c = omega arith
+add-word : tie.Need-add-word Inv-loop μ-loop
+add-word c = omega arith
 
-shared-slice-read-quad : tie.Need-shared-slice-read-quad Inv-loop μ-loop
-shared-slice-read-quad c = omega arith
-
-add-quad : tie.Need-add-quad Inv-loop μ-loop
-add-quad c = omega arith
-
-shared-slice-read-quad-2 : tie.Need-shared-slice-read-quad-2 Inv-loop μ-loop
-shared-slice-read-quad-2 c = omega arith
-
-add-quad-2 : tie.Need-add-quad-2 Inv-loop μ-loop
-add-quad-2 c = omega arith
-
-shared-slice-read-quad-3 : tie.Need-shared-slice-read-quad-3 Inv-loop μ-loop
-shared-slice-read-quad-3 c = omega arith
-
-add-quad-3 : tie.Need-add-quad-3 Inv-loop μ-loop
-add-quad-3 c = omega arith
-
-shared-slice-read-quad-4 : tie.Need-shared-slice-read-quad-4 Inv-loop μ-loop
-shared-slice-read-quad-4 c = omega arith
-
-quad-requires : tie.Need-quad-requires Inv-loop μ-loop
-quad-requires c κs = tt
+word-requires : tie.Need-word-requires Inv-loop μ-loop
+word-requires c κs = omega arith
 
 add-i : tie.Need-add-i Inv-loop μ-loop
 add-i c = omega arith
@@ -59,13 +36,11 @@ loop-less : tie.Need-loop-less Inv-loop μ-loop
 loop-less c = omega arith
 
 loop-again : tie.Need-loop-again Inv-loop μ-loop
-unfolding u8At
 loop-again c =
-    let a = c .before .before .before .before .before .before .before .before .args in
+    let a = c .before .before .before .before .args in
     let s = now (a .s) in
-    let l = c .before .before .before .before .before .before .loop in
-    let j = a .at + l .i in
-    (omega arith, zeros-turn 4 s (a .at) (a .n) (l .i) (l .zero) (eqb (c .quad .result) 0) (omega arith) (ap (λ (n : ℕ). eqb n 0) (c .quad .ensures ∙ sym (u32-is s j)) ∙ sym (zeros-u32 s j)) (l .inv .1))
+    let l = c .before .before .loop in
+    (omega arith, zeros-turn 4 s (a .at) (a .n) (l .i) (l .zero) (eqb (c .word .result) 0) (omega arith) (ap (λ (n : ℕ). eqb n 0) (c .word .ensures) ∙ sym (zeros-u32 s (a .at + l .i))) (l .inv .1))
 
 add-zero-bytes : tie.Need-add-zero-bytes Inv-loop μ-loop
 add-zero-bytes c = omega arith
@@ -89,15 +64,8 @@ zero-words-spec =
     μ-loop
     loop-holds
     sub-loop
-    add-j
-    shared-slice-read-quad
-    add-quad
-    shared-slice-read-quad-2
-    add-quad-2
-    shared-slice-read-quad-3
-    add-quad-3
-    shared-slice-read-quad-4
-    quad-requires
+    add-word
+    word-requires
     add-i
     loop-less
     loop-again

@@ -1,0 +1,14 @@
+-- `float32::below` meets its contract. Assumes nothing.
+use mathlib.Core.Path.{refl}
+use mathlib.Core.Logic.{inl, inr}
+use Rattle.float32.proofs.below.Statement.{statement}
+use Rattle.float32.proofs.below.Tie as tie
+
+returns : tie.Need-returns
+returns c = inl (c .if1 .taken, refl)
+
+returns-2 : tie.Need-returns-2
+returns-2 c = inr (c .if1 .left, refl)
+
+pub below-spec : {M : Type 1} → statement M
+below-spec = tie.close (tie.spec returns returns-2)
