@@ -4,7 +4,7 @@
 #   run.sh [STREAMS [SEED]]
 # Exit status 0: nothing differs.
 set -u
-top=$(cd "$(dirname "${BASH_SOURCE[0]}")/../.." && pwd)
+. "$(dirname "${BASH_SOURCE[0]}")/../common.sh"
 cd "$top" || exit 1
 build=$top/build/decide
 mkdir -p "$build"
@@ -14,14 +14,7 @@ if ! grep -q '^decide:' crates.txt; then
     exit 0
 fi
 rust=$(oracle/run.sh --path decide 2>"$build/said") && streams=$(oracle/run.sh --path streams 2>"$build/said")
-status=$?
-if [ "$status" -eq 77 ]; then
-    echo "skipped: $(cat "$build/said")"
-    exit 0
-elif [ "$status" -ne 0 ]; then
-    cat "$build/said"
-    exit "$status"
-fi
+need $? "$build/said"
 if ! rt check decide >"$build/check.out" 2>&1; then
     cat "$build/check.out"
     exit 1

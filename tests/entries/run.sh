@@ -4,21 +4,10 @@
 #   run.sh STEPS [SEED]     that many steps
 # Exit status 0: nothing differs.
 set -u
-top=$(cd "$(dirname "${BASH_SOURCE[0]}")/../.." && pwd)
+. "$(dirname "${BASH_SOURCE[0]}")/../common.sh"
 cd "$top" || exit 1
 build=$top/build/entries
 mkdir -p "$build"
-
-# Ends the test where STATUS says that something was not there, or went wrong.
-need() { # STATUS
-    if [ "$1" -eq 77 ]; then
-        echo "skipped: $(cat "$build/said")"
-        exit 0
-    elif [ "$1" -ne 0 ]; then
-        cat "$build/said"
-        exit "$1"
-    fi
-}
 
 if ! grep -q '^failsafe:' crates.txt; then
     echo "skipped: crates.txt does not list the crate failsafe"
@@ -27,10 +16,10 @@ fi
 
 if [ $# -eq 0 ]; then
     oracle/run.sh --test frames >"$build/said" 2>&1
-    need $?
+    need $? "$build/said"
     echo "the Rust's own entries follow document 01's table of refusals"
     standin=$(oracle/run.sh --features standin --path entries 2>"$build/said")
-    need $?
+    need $? "$build/said"
     for fault in 1 2 3 4 5 6 7 8; do
         if CUTHRANSI_FAULT=$fault "$standin" 20000 >"$build/fault$fault" || ! grep -q '^differs' "$build/fault$fault"; then
             echo "the driver did not see fault $fault of oracle/port/src/standin.rs"
@@ -47,5 +36,5 @@ fi
 CUTHRANSI_STATICLIB=$top/target/staticlib
 export CUTHRANSI_STATICLIB
 beside=$(oracle/run.sh --path entries 2>"$build/said")
-need $?
+need $? "$build/said"
 "$beside" "$@"
