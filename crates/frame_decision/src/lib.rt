@@ -1,6 +1,7 @@
 // Kind 4: a Decision in its frame of 95 bytes, read and written.
 ghost use mathlib.Core.Path.{_≡_};
 ghost use Prim.Native.Nat.{_<_};
+ghost use lib.ListN.{replicate};
 ghost use lib.Seq.{sets};
 ghost use Rattle.wire.specs.Frame.{roomFault, frameWritten};
 ghost use Rattle.frame_decision.specs.Slots.{slotAt, slotsAt, slotValid, slotsValid, leSlot, leSlots};
@@ -51,21 +52,28 @@ fn slot_valid(s: &[u8], at: usize) -> bool
     requires { ⌜ at < 256 ⌝ }
     ensures { λ r. ⌜ r ≡ slotValid (now (s .entry)) at ⌝ }
 {
-    options::option_valid(s, at, 2)
-        & wire::byte_below(s, at + 1, 19)
-        & wire::byte_below(s, at + 2, 5)
+    let flag = wire::u8_at(s, at);
+    if flag == 0 {
+        wire::u16_at(s, at + 1) == 0
+    } else if flag == 1 {
+        wire::byte_below(s, at + 1, 19) & wire::byte_below(s, at + 2, 5)
+    } else {
+        false
+    }
 }
 
 fn slots_valid(s: &[u8]) -> bool
     ensures { λ r. ⌜ r ≡ slotsValid (now (s .entry)) 19 ⌝ }
 {
-    let mut valid = true;
     let mut i: usize = 0;
     while i < 19 {
-        valid = valid & slot_valid(s, 7 + 3 * i);
-        i += 1;
+        if slot_valid(s, 7 + 3 * i) {
+            i += 1;
+        } else {
+            return false;
+        }
     }
-    valid
+    true
 }
 
 fn estimate_at(s: &[u8]) -> EnergyEstimate
@@ -97,20 +105,21 @@ fn decision_at(s: &[u8]) -> Decision
     }
 }
 
+// No test is made after one that fails.
 fn decision_valid(s: &[u8]) -> bool
     ensures { λ r. ⌜ r ≡ decisionValid (now (s .entry)) ⌝ }
 {
-    slots_valid(s)
-        & wire::byte_below(s, 4, 5)
-        & wire::byte_below(s, 5, 19)
-        & wire::byte_below(s, 6, 5)
-        & wire::byte_below(s, 64, 2)
-        & wire::byte_below(s, 65, 2)
-        & options::option_valid(s, 78, 4)
-        & options::option_valid(s, 83, 4)
-        & wire::byte_below(s, 88, 2)
-        & options::option_valid(s, 89, 4)
-        & wire::byte_below(s, 94, 2)
+    let valid = slots_valid(s)
+        && wire::byte_below(s, 4, 5)
+        && wire::byte_below(s, 5, 19)
+        && wire::byte_below(s, 6, 5)
+        && wire::byte_below(s, 64, 2)
+        && wire::byte_below(s, 65, 2)
+        && options::option_valid(s, 78, 4)
+        && options::option_valid(s, 83, 4)
+        && wire::byte_below(s, 88, 2)
+        && options::option_valid(s, 89, 4);
+    valid & wire::byte_below(s, 94, 2)
 }
 
 // Nothing asked for, every number +0.
@@ -166,9 +175,10 @@ pub fn read_decision(s: &[u8]) -> DecisionRead
     }
 }
 
-// An absent request is three bytes of 0, whatever reason and action the slot holds.
+// An absent request is three bytes of 0, whatever reason and action the slot holds. They stand there already.
 fn put_slot(s: &mut [u8], at: usize, x: Slot)
     requires { ⌜ at < 256 ⌝ }
+    requires { ⌜ sets (now s) at (replicate 3 0) ≡ now s ⌝ }
     ensures { λ _. ⌜ now (s .exit) ≡ sets (now (s .entry)) at (leSlot x) ⌝ }
 {
     let reason = x.reason;
@@ -177,16 +187,26 @@ fn put_slot(s: &mut [u8], at: usize, x: Slot)
         wire::put_u8(s, at, 1);
         options::put_reason(s, at + 1, reason);
         options::put_action(s, at + 2, action);
-    } else {
-        wire::put_u8(s, at, 0);
-        wire::put_u16(s, at + 1, 0);
     }
 }
 
+// The bytes of all slots.
+fn put_zeros(s: &mut [u8])
+    ensures { λ _. ⌜ now (s .exit) ≡ sets (now (s .entry)) 7 (replicate 57 0) ⌝ }
+{
+    let mut i: usize = 0;
+    while i < 57 {
+        wire::put_u8(s, 7 + i, 0);
+        i += 1;
+    }
+}
+
+// Most requests are absent, so all bytes are made 0 first.
 fn put_slots(s: &mut [u8], a: ActiveSet)
     ensures { λ _. ⌜ now (s .exit) ≡ sets (now (s .entry)) 7 (leSlots 19 (a .reqs)) ⌝ }
 {
     let reqs = a.reqs;
+    put_zeros(s);
     let mut i: usize = 0;
     while i < 19 {
         let x = reqs[i];

@@ -4,7 +4,9 @@ ghost use Prim.Native.Nat.{_<_};
 ghost use lib.Seq.{sets};
 ghost use Rattle.wire.specs.Cell.{bytesOf};
 ghost use Rattle.wire.specs.Frame.{roomFault, frameWritten};
-ghost use Rattle.frame_telemetry.specs.Readings.{fixAt, landedAt, optionGpsAt, isSomeGps, zeroGps, gpsOrZero, gpsCells};
+ghost use Rattle.options.specs.Position.{optionPositionAt};
+ghost use Rattle.types.specs.declared.OptionGpsSample.{OptionGpsSample};
+ghost use Rattle.frame_telemetry.specs.Readings.{fixAt, landedAt, optionGpsAt, gpsCells};
 ghost use Rattle.frame_telemetry.specs.Readings.{stampedF32At, isSomeStampedF32, stampF32, valueF32, stampedF32Cells};
 ghost use Rattle.frame_telemetry.specs.Readings.{stampedBoolAt, isSomeStampedBool, stampBool, valueBool, stampedBoolCells};
 ghost use Rattle.frame_telemetry.specs.Readings.{stampedLandedAt, isSomeStampedLanded, stampLanded, valueLanded, stampedLandedCells};
@@ -13,15 +15,16 @@ use types::BatteryInputs;
 use types::GpsFix;
 use types::GpsSample;
 use types::LandedState;
-use types::OptionF32;
 use types::OptionGpsFix;
 use types::OptionGpsSample;
 use types::OptionLandedState;
+use types::OptionPositionSample;
 use types::OptionStampedBool;
 use types::OptionStampedF32;
 use types::OptionStampedLandedState;
-use types::OptionU8;
+use types::PositionSample;
 use types::Telemetry;
+use types::Vec3;
 
 pub enum TelemetryRead {
     Frame(Telemetry),
@@ -112,11 +115,33 @@ fn stamped_landed_at(s: &[u8], at: usize) -> OptionStampedLandedState
     }
 }
 
+// As `options::option_position_at`, in this crate so that no call of it is compiled.
+fn position_at(s: &[u8]) -> OptionPositionSample
+    ensures { λ r. ⌜ r ≡ optionPositionAt (now (s .entry)) 8 ⌝ }
+{
+    if wire::flag_at(s, 8) {
+        let t_ms = wire::u32_at(s, 9);
+        let pos = Vec3 {
+            n: wire::f32_at(s, 13),
+            e: wire::f32_at(s, 17),
+            d: wire::f32_at(s, 21),
+        };
+        let vel = Vec3 {
+            n: wire::f32_at(s, 25),
+            e: wire::f32_at(s, 29),
+            d: wire::f32_at(s, 33),
+        };
+        OptionPositionSample::Some(PositionSample { t_ms, pos, vel })
+    } else {
+        OptionPositionSample::None
+    }
+}
+
 fn telemetry_at(s: &[u8]) -> Telemetry
     ensures { λ r. ⌜ r ≡ telemetryAt (now (s .entry)) ⌝ }
 {
     let now_ms = wire::u32_at(s, 4);
-    let position = options::option_position_at(s, 8);
+    let position = position_at(s);
     let gps = option_gps_at(s, 37);
     let voltage_v = stamped_f32_at(s, 50);
     let percent = stamped_f32_at(s, 59);
@@ -183,50 +208,36 @@ pub fn read_telemetry(s: &[u8]) -> TelemetryRead
     }
 }
 
-fn is_some_gps(o: OptionGpsSample) -> bool
-    ensures { λ r. ⌜ r ≡ isSomeGps o ⌝ }
+fn put_sample(s: &mut [u8], g: GpsSample)
+    ensures { λ _. ⌜ now (s .exit) ≡ sets (now (s .entry)) 37 (bytesOf (gpsCells (OptionGpsSample.Some g))) ⌝ }
 {
-    match o {
-        OptionGpsSample::Some(_) => true,
-        OptionGpsSample::None => false,
-    }
-}
-
-fn zero_gps() -> GpsSample
-    ensures { λ r. ⌜ r ≡ zeroGps ⌝ }
-{
-    let fix = GpsFix::None;
-    let sats = OptionU8::None;
-    let hdop = OptionF32::None;
-    GpsSample {
-        t_ms: 0,
-        fix,
-        sats,
-        hdop,
-    }
-}
-
-fn gps_or_zero(o: OptionGpsSample) -> GpsSample
-    ensures { λ r. ⌜ r ≡ gpsOrZero o ⌝ }
-{
-    match o {
-        OptionGpsSample::Some(g) => g,
-        OptionGpsSample::None => zero_gps(),
-    }
-}
-
-fn put_gps(s: &mut [u8], o: OptionGpsSample)
-    ensures { λ _. ⌜ now (s .exit) ≡ sets (now (s .entry)) 37 (bytesOf (gpsCells o)) ⌝ }
-{
-    let g = gps_or_zero(o);
     let fix = g.fix;
     let sats = g.sats;
     let hdop = g.hdop;
-    wire::put_flag(s, 37, is_some_gps(o));
+    wire::put_flag(s, 37, true);
     wire::put_u32(s, 38, g.t_ms);
     wire::put_u8(s, 42, fix.number());
     options::put_option_u8(s, 43, sats);
     options::put_option_f32(s, 45, hdop);
+}
+
+fn put_no_sample(s: &mut [u8])
+    ensures { λ _. ⌜ now (s .exit) ≡ sets (now (s .entry)) 37 (bytesOf (gpsCells OptionGpsSample.None)) ⌝ }
+{
+    wire::put_flag(s, 37, false);
+    wire::put_u32(s, 38, 0);
+    wire::put_u32(s, 42, 0);
+    wire::put_u32(s, 46, 0);
+}
+
+// Each case apart: a sample copied to be written, present or not, costs more than the test.
+fn put_gps(s: &mut [u8], o: OptionGpsSample)
+    ensures { λ _. ⌜ now (s .exit) ≡ sets (now (s .entry)) 37 (bytesOf (gpsCells o)) ⌝ }
+{
+    match o {
+        OptionGpsSample::Some(g) => put_sample(s, g),
+        OptionGpsSample::None => put_no_sample(s),
+    }
 }
 
 fn is_some_stamped_f32(o: OptionStampedF32) -> bool

@@ -1,9 +1,9 @@
 -- `frame_decision::put_slot` meets its contract. Assumes nothing.
 use Prim.Native.Nat.{_+_, suc}
-use mathlib.Core.Path.{_≡_}
+use mathlib.Core.Path.{_≡_, sym}
 use native.Mathlib.Omega.{arith}
 use borrow.Author.Needs.{needs}
-use Rattle.wire.specs.Fields.{leFlag, le8, le16, leBytes}
+use Rattle.wire.specs.Fields.{leFlag, le8}
 use Rattle.options.specs.Enums.{leAction, leReason}
 use Rattle.frame_decision.specs.Slots.{leSlot}
 use Rattle.frame_decision.proofs.put_slot.Statement.{statement}
@@ -14,9 +14,6 @@ add-put-reason c = search needs
 
 add-put-action : tie.Need-add-put-action
 add-put-action c = search needs
-
-add-put-u16 : tie.Need-add-put-u16
-add-put-u16 c = search needs
 
 same-length : tie.Need-same-length
 same-length c = search needs
@@ -30,16 +27,9 @@ returns c =
     let two : at + 2 ≡ suc (suc at) = omega arith in
     simp (p1 .before .before .if1 .taken) (cc)
 
-same-length-2 : tie.Need-same-length-2
-same-length-2 c = search needs
-
 returns-2 : tie.Need-returns-2
-unfolding leSlot leFlag le8 le16 leBytes
-returns-2 c =
-    let p1 = c .before .before .before .before .before .before in
-    let at = p1 .before .before .before .before .args .at in
-    let one : at + 1 ≡ suc at = omega arith in
-    simp (p1 .before .before .if1 .left) (cc)
+unfolding leSlot leFlag le8
+returns-2 c = simp (c .if1 .left) (sym (c .before .before .pre .1))
 
 pub put-slot-spec : {M : Type 1} → statement M
 put-slot-spec =
@@ -50,10 +40,6 @@ put-slot-spec =
     (λ c κs. tt)
     add-put-action
     (λ c κs. tt)
-    (λ c κs. tt)
-    add-put-u16
-    (λ c κs. tt)
     same-length
     returns
-    same-length-2
     returns-2)

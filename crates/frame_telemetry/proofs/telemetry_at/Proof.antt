@@ -7,8 +7,8 @@ use Rattle.frame_telemetry.proofs.telemetry_at.Tie as tie
 u32-at-requires : tie.Need-u32-at-requires
 u32-at-requires c κs = search needs
 
-option-position-at-requires : tie.Need-option-position-at-requires
-option-position-at-requires c κs = search needs
+position-at-requires : tie.Need-position-at-requires
+position-at-requires c κs = search needs
 
 option-gps-at-requires : tie.Need-option-gps-at-requires
 option-gps-at-requires c κs = search needs
@@ -43,7 +43,7 @@ returns c =
     λ j.
     record {
       «now_ms» = c .before .before .before .before .before .before .before .before .before .before .u32-at .ensures j;
-      position = c .before .before .before .before .before .before .before .before .before .option-position-at .ensures j;
+      position = c .before .before .before .before .before .before .before .before .before .position-at .ensures j;
       gps = c .before .before .before .before .before .before .before .before .option-gps-at .ensures j;
       battery =
           record {
@@ -63,7 +63,7 @@ telemetry-at-spec =
     tie.close
     (tie.spec
     u32-at-requires
-    option-position-at-requires
+    position-at-requires
     option-gps-at-requires
     stamped-f32-at-requires
     stamped-f32-at-requires-2
