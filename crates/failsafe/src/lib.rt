@@ -89,6 +89,6 @@ pub extern "C" fn failsafe_fresh(state: &mut [u8]) -> u32
     ensures { λ r. ⌜ r ≡ freshCall (now (state .entry)) .number ⌝ }
     ensures { λ _. ⌜ now (state .exit) ≡ freshCall (now (state .entry)) .state ⌝ }
 {
-    let n = frame_state::write_state(state, Supervisor::fresh());
+    let n = frame_state::write_fresh(state);
     n as u32
 }

@@ -1,9 +1,10 @@
 // Kind 5: the supervisor's state, without configuration and fence, in its frame of 186 bytes, read and written.
 ghost use mathlib.Core.Path.{_≡_};
 ghost use Prim.Native.Nat.{_+_, _≤_};
-ghost use lib.ListN.{length};
+ghost use lib.ListN.{length, replicate};
 ghost use lib.Seq.{sets};
 ghost use Rattle.supervisor.specs.Rules.{finiteVec, finiteStored};
+ghost use Rattle.supervisor.specs.Step.{freshSupervisor};
 ghost use Rattle.wire.specs.Frame.{roomFault, frameWritten};
 ghost use Rattle.options.specs.Options.{validOption};
 ghost use Rattle.options.specs.Position.{optionPositionAt};
@@ -316,5 +317,29 @@ pub fn write_state(s: &mut [u8], x: Supervisor) -> u16
         return 5;
     }
     put_state(s, x);
+    0
+}
+
+// The bytes of a body.
+fn put_zeros(s: &mut [u8])
+    ensures { λ _. ⌜ now (s .exit) ≡ sets (now (s .entry)) 4 (replicate 182 0) ⌝ }
+{
+    let mut i: usize = 0;
+    while i < 182 {
+        wire::put_u8(s, 4 + i, 0);
+        i += 1;
+    }
+}
+
+// The same for a fresh state, whose body is zero bytes alone. A second caller of `write_state` in the entries would keep it out
+// of the step's own code.
+pub fn write_fresh(s: &mut [u8]) -> u16
+    ensures { λ r. ⌜ (r ≡ roomFault (stateFrame freshSupervisor) (now (s .entry))) × (now (s .exit) ≡ frameWritten (stateFrame freshSupervisor) (now (s .entry))) ⌝ }
+{
+    if s.len() < 186 {
+        return 5;
+    }
+    wire::put_head(s, 5, 184);
+    put_zeros(s);
     0
 }

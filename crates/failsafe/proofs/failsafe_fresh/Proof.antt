@@ -4,11 +4,8 @@ use borrow.Author.Needs.{needs}
 use Rattle.failsafe.proofs.failsafe_fresh.Statement.{statement}
 use Rattle.failsafe.proofs.failsafe_fresh.Tie as tie
 
-fresh-requires : tie.Need-fresh-requires
-fresh-requires c κs = search needs
-
-write-state-requires : tie.Need-write-state-requires
-write-state-requires c κs = search needs
+write-fresh-requires : tie.Need-write-fresh-requires
+write-fresh-requires c κs = search needs
 
 cast-result : tie.Need-cast-result
 cast-result c = search needs
@@ -18,8 +15,8 @@ same-length c = search needs
 
 returns : tie.Need-returns
 unfolding freshCall
-returns c = rw (← c .before .before .before .fresh .ensures) (c .before .before .write-state .ensures .0, c .before .before .write-state .ensures .1)
+returns c = (c .before .before .write-fresh .ensures .0, c .before .before .write-fresh .ensures .1)
 
 pub failsafe-fresh-spec : {M : Type 1} → statement M
 failsafe-fresh-spec =
-    tie.close (tie.spec fresh-requires write-state-requires cast-result same-length returns)
+    tie.close (tie.spec write-fresh-requires cast-result same-length returns)
