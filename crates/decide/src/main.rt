@@ -5,6 +5,7 @@ ghost use Prim.Native.Nat.{_≤_};
 use flight::Flight;
 use libc::STDIN_FILENO;
 use libc::STDOUT_FILENO;
+use stream::Due;
 use stream::Session;
 use supervisor::Supervisor;
 
@@ -44,21 +45,23 @@ fn setup_next(p: Setup, input: &[u8]) -> Setup {
     let end = at + n;
     let a = stream::answer_setup(session, &input[at..end]);
     let next = a.session;
+    let due = next.due;
     Setup {
         session: next,
         at: end,
         refused: a.refused,
-        more: stream::in_setup(next),
+        more: stream::in_setup(due),
     }
 }
 
 // The two frames that set a flight up.
 fn set_up(session: Session, input: &[u8]) -> Setup {
+    let due = session.due;
     let mut p = Setup {
         session: session,
         at: 0,
         refused: 0,
-        more: stream::in_setup(session),
+        more: stream::in_setup(due),
     };
     let mut turns: usize = 2;
     while turns > 0 && p.more {
@@ -70,14 +73,14 @@ fn set_up(session: Session, input: &[u8]) -> Setup {
 
 // ---- kind 3 frames
 
-// The supervisor, how many bytes were taken, how many are in the output block, whether to go on, and whether the session is
-// over: after a refusal, or where a write failed.
+// What is due, the supervisor, how many bytes were taken, how many are in the output block, more than it has where a write
+// failed, and whether to go on.
 struct Flying {
+    due: Due,
     supervisor: Supervisor,
     at: usize,
     out: usize,
     more: bool,
-    over: bool,
 }
 
 // Writes the output block out where it has no room for one more answer, and answers how many bytes are in it then; more than
@@ -96,6 +99,7 @@ fn flush_full(out: usize, output: &[u8]) -> usize {
 
 // Answers the next whole frame, if there is one.
 fn fly_next(f: Flight, p: Flying, input: &[u8], output: &mut [u8]) -> Flying {
+    let due = p.due;
     let s = p.supervisor;
     let at = least(p.at, input.len());
     let size = output.len();
@@ -103,35 +107,35 @@ fn fly_next(f: Flight, p: Flying, input: &[u8], output: &mut [u8]) -> Flying {
     let n = least(stream::whole_frame(&input[at..]), input.len() - at);
     if n == 0 {
         return Flying {
+            due: due,
             supervisor: s,
             at: at,
             out: out,
             more: false,
-            over: false,
         };
     }
     let end = at + n;
     let a = stream::fly_frame(f, s, &input[at..end], &mut output[out..]);
+    let after = a.due;
     let next = a.supervisor;
     let filled = flush_full(out + least(a.put, size - out), output);
-    let over = (a.refused != 0) | (size < filled);
     Flying {
+        due: after,
         supervisor: next,
         at: end,
         out: filled,
-        more: !over,
-        over: over,
+        more: stream::in_flight(after) & (filled <= size),
     }
 }
 
 // Answers every whole frame of the input. A frame has at least two bytes, so as many turns as there are bytes are enough.
 fn fly(f: Flight, s: Supervisor, from: usize, input: &[u8], output: &mut [u8]) -> Flying {
     let mut p = Flying {
+        due: Due::Telemetry,
         supervisor: s,
         at: from,
         out: 0,
         more: true,
-        over: false,
     };
     let mut turns = input.len();
     while turns > 0 && p.more {
@@ -208,11 +212,11 @@ fn fly_on(session: Session, from: usize, full: usize, input: &mut [u8], output: 
     let s = session.supervisor;
     let stop = least(full, input.len());
     let p = fly(f, s, from, &input[..stop], output);
+    let due = p.due;
     let after = p.supervisor;
     let ok = write_out(p.out, output);
     let at = least(p.at, stop);
     move_front(input, at, stop);
-    let due = session.due;
     Kept {
         session: Session {
             due: due,
@@ -220,7 +224,7 @@ fn fly_on(session: Session, from: usize, full: usize, input: &mut [u8], output: 
             supervisor: after,
         },
         have: stop - at,
-        more: ok & !p.over,
+        more: ok & stream::in_flight(due),
     }
 }
 
@@ -228,9 +232,10 @@ fn fly_on(session: Session, from: usize, full: usize, input: &mut [u8], output: 
 fn read_once(k: Kept, input: &mut [u8], output: &mut [u8]) -> Kept {
     let session = k.session;
     let have = k.have;
+    let due = session.due;
     let full = read_more(input, have);
     if full <= have {
-        write_refusal(stream::at_end(session, have), output);
+        write_refusal(stream::at_end(due, have), output);
         return ended(session);
     }
     let p = set_up(session, &input[..full]);
@@ -239,7 +244,8 @@ fn read_once(k: Kept, input: &mut [u8], output: &mut [u8]) -> Kept {
         write_refusal(p.refused, output);
         return ended(next);
     }
-    if stream::in_flight(next) {
+    let after = next.due;
+    if stream::in_flight(after) {
         return fly_on(next, p.at, full, input, output);
     }
     let at = least(p.at, full);

@@ -94,12 +94,12 @@ abbrev pub bytesFor : TelemetryRead → Flight → Supervisor → List ℕ
 bytesFor (TelemetryRead.Refused n) f s = refusalFrame n
 bytesFor (TelemetryRead.Frame t) f s = decisionFrame (stepFlight f s t .decision)
 
--- the supervisor after it, and how many bytes were put into a slice
+-- "at the first refusal it … ends": nothing is due then; else a kind 3 again, with the supervisor of the step; and how many bytes were put into a slice
 abbrev pub flown : TelemetryRead → Flight → Supervisor → List ℕ → Flown
-flown (TelemetryRead.Refused n) f s out = record { refused = n; supervisor = s; put = putCount (refusalFrame n) out }
+flown (TelemetryRead.Refused n) f s out = record { due = Due.Nothing; supervisor = s; put = putCount (refusalFrame n) out }
 flown (TelemetryRead.Frame t) f s out =
     let next = stepFlight f s t in
-    record { refused = 0; supervisor = next .supervisor; put = putCount (decisionFrame (next .decision)) out }
+    record { due = Due.Telemetry; supervisor = next .supervisor; put = putCount (decisionFrame (next .decision)) out }
 
 -- ---- the end
 
@@ -117,5 +117,5 @@ inFlight Due.Nothing = false
 
 -- the refusal where the input ends after so many bytes that are no whole frame: none at a frame boundary or once the session is over, else the frame is
 -- short, 1
-unfoldable pub atEnd : Session → ℕ → ℕ
-atEnd s rest = cond (eqb rest 0) 0 (cond (inSetup (s .due) || inFlight (s .due)) 1 0)
+unfoldable pub atEnd : Due → ℕ → ℕ
+atEnd due rest = cond (eqb rest 0) 0 (cond (inSetup due || inFlight due) 1 0)

@@ -34,9 +34,9 @@ pub struct Answer {
     pub refused: u16,
 }
 
-// The supervisor after a frame of kind 3, the refusal, 0 for none, and how many bytes were written.
+// What is due after a frame of kind 3, the supervisor then, and how many bytes were written.
 pub struct Flown {
-    pub refused: u16,
+    pub due: Due,
     pub supervisor: Supervisor,
     pub put: usize,
 }
@@ -200,7 +200,7 @@ pub fn fly_frame(f: Flight, s: Supervisor, frame: &[u8], out: &mut [u8]) -> Flow
 {
     match frame_telemetry::read_telemetry(frame) {
         TelemetryRead::Refused(n) => Flown {
-            refused: n,
+            due: Due::Nothing,
             supervisor: s,
             put: put_refusal(n, out),
         },
@@ -209,7 +209,7 @@ pub fn fly_frame(f: Flight, s: Supervisor, frame: &[u8], out: &mut [u8]) -> Flow
             let after = next.supervisor;
             let d = next.decision;
             Flown {
-                refused: 0,
+                due: Due::Telemetry,
                 supervisor: after,
                 put: put_decision(d, out),
             }
@@ -220,10 +220,9 @@ pub fn fly_frame(f: Flight, s: Supervisor, frame: &[u8], out: &mut [u8]) -> Flow
 // ---- the end
 
 // Whether a kind 1 or 2 is due.
-pub fn in_setup(session: Session) -> bool
-    ensures { λ r. ⌜ r ≡ inSetup (session .due) ⌝ }
+pub fn in_setup(due: Due) -> bool
+    ensures { λ r. ⌜ r ≡ inSetup due ⌝ }
 {
-    let due = session.due;
     match due {
         Due::Config => true,
         Due::Fence => true,
@@ -233,10 +232,9 @@ pub fn in_setup(session: Session) -> bool
 }
 
 // Whether a kind 3 is due.
-pub fn in_flight(session: Session) -> bool
-    ensures { λ r. ⌜ r ≡ inFlight (session .due) ⌝ }
+pub fn in_flight(due: Due) -> bool
+    ensures { λ r. ⌜ r ≡ inFlight due ⌝ }
 {
-    let due = session.due;
     match due {
         Due::Config => false,
         Due::Fence => false,
@@ -246,15 +244,11 @@ pub fn in_flight(session: Session) -> bool
 }
 
 // The refusal where the input ends with so many bytes that make no whole frame: at a frame boundary none.
-pub fn at_end(session: Session, rest: usize) -> u16
-    ensures { λ r. ⌜ r ≡ atEnd session rest ⌝ }
+pub fn at_end(due: Due, rest: usize) -> u16
+    ensures { λ r. ⌜ r ≡ atEnd due rest ⌝ }
 {
     if rest == 0 {
         return 0;
     }
-    if in_setup(session) | in_flight(session) {
-        1
-    } else {
-        0
-    }
+    if in_setup(due) | in_flight(due) { 1 } else { 0 }
 }

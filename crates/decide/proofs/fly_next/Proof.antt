@@ -73,6 +73,9 @@ add-flush-full c = omega (arith, c .least4 .ensures .1, c .before .before .befor
 flush-full-requires : tie.Need-flush-full-requires
 flush-full-requires c κs = search needs
 
+in-flight-requires : tie.Need-in-flight-requires
+in-flight-requires c κs = search needs
+
 same-length : tie.Need-same-length
 same-length c = search needs
 
@@ -104,5 +107,6 @@ fly-next-spec =
     least-requires-4
     add-flush-full
     flush-full-requires
+    in-flight-requires
     same-length
     returns-2)

@@ -35,6 +35,9 @@ move-front-requires c κs = search needs
 sub-t14 : tie.Need-sub-t14
 sub-t14 c = search needs
 
+in-flight-requires : tie.Need-in-flight-requires
+in-flight-requires c κs = search needs
+
 same-length : tie.Need-same-length
 same-length c = search needs
 
@@ -56,6 +59,7 @@ fly-on-spec =
     least-requires-2
     move-front-requires
     sub-t14
+    in-flight-requires
     same-length
     same-length-2
     returns)

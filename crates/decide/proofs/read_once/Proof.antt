@@ -83,8 +83,8 @@ least-requires c κs = search needs
 move-front-requires : tie.Need-move-front-requires
 move-front-requires c κs = search needs
 
-sub-t30 : tie.Need-sub-t30
-sub-t30 c = search needs
+sub-t32 : tie.Need-sub-t32
+sub-t32 c = search needs
 
 same-length-7 : tie.Need-same-length-7
 same-length-7 c = search needs
@@ -118,6 +118,6 @@ read-once-spec =
     returns-3
     least-requires
     move-front-requires
-    sub-t30
+    sub-t32
     same-length-7
     returns-4)
