@@ -190,7 +190,8 @@ int main(void)
             printf("%6u refused: %u\n", (unsigned)now, (unsigned)refused);
             return 1;
         }
-        printf("%6u %s, reason %u, requested %s\n", (unsigned)now, actions[output[4]], output[5], actions[output[6]]);
+        printf("%6u %s, reason %u, requested %s\n", (unsigned)now, actions[output[FAILSAFE_DECISION_ACTION]],
+               output[FAILSAFE_DECISION_REASON], actions[output[FAILSAFE_DECISION_REQUESTED]]);
     }
 
     /* a step that is refused leaves the state as it was */

@@ -14,7 +14,39 @@
  *   state          5      186                 the supervisor's state
  *
  * A bool is a byte 0 or 1, an enum a byte in declared order from 0, an Option a byte 0 or 1 and then its
- * value, all zero bytes where absent. Written NaNs are 7FC00000 (hexadecimal).
+ * value, all zero bytes where absent. Floats are IEEE 754 binary32; written NaNs are 7FC00000 (hexadecimal). A
+ * stamp t_ms is a clock reading of 32 bits, as now_ms; the clock may wrap.
+ *
+ *   Telemetry, place and bytes          Decision, place and bytes
+ *     4  4  now_ms                        4  1  action, as shown
+ *     8  1  position: flag                5  1  reason
+ *     9  4    t_ms                        6  1  requested: the action that was asked for
+ *    13 12    pos north, east, down       7 57  active: 19 slots by reason, each a flag, reason, action
+ *    25 12    vel north, east, down      64  1  position_valid
+ *    37  1  gps: flag                    65  1  clock_fault
+ *    38  4    t_ms                       66  4  energy: rtl_wh
+ *    42  1    fix                        70  4    land_wh
+ *    43  2    sats: flag, number         74  4    reserve_wh
+ *    45  5    hdop: flag, float          78  5    remaining_wh: flag, float
+ *    50  9  voltage_v: flag, t_ms, float 83  5    margin_wh: flag, float
+ *    59  9  percent: the same            88  1    insufficient_for_landing
+ *    68  9  remaining_wh: the same       89  5  fence_dist_m: flag, float
+ *    77  5  gcs_heartbeat_ms: flag, t_ms 94  1  disarm_eligible
+ *    82  6  armed: flag, t_ms, bool
+ *    88  6  landed: flag, t_ms, enum
+ *    94  6  rc_ok: flag, t_ms, bool
+ *   100  6  ekf_ok: flag, t_ms, bool
+ *
+ *   action   0 Nominal, 1 Warn, 2 Hold, 3 ReturnToLaunch, 4 Land
+ *   reason   0 None, 1 ClockFault, 2 InvalidInput, 3 StaleBattery, 4 GcsLinkLost, 5 RcLost, 6 GpsDegraded,
+ *            7 GpsLost, 8 EkfUnhealthy, 9 PositionInvalid, 10 FenceApproach, 11 FenceBreach, 12 AltitudeMax,
+ *            13 AltitudeMin, 14 BatteryWarn, 15 BatteryLow, 16 BatteryCritical, 17 EnergyRtlMarginal,
+ *            18 EnergyRtlInfeasible
+ *   fix      0 None, 1 Fix2D, 2 Fix3D
+ *   landed   0 Undefined, 1 OnGround, 2 InAir, 3 Takeoff, 4 Landing
+ *
+ * Config is packed by tools/frames.py, and written field by field in examples/host.c. The state's bytes are the
+ * library's own: a host keeps them and hands them back.
  *
  * Both entries answer 0 on success. Any other answer is a refusal, and then no byte of state or output has
  * changed:
@@ -51,6 +83,11 @@ extern "C" {
 #define FAILSAFE_TELEMETRY_BYTES 106
 #define FAILSAFE_DECISION_BYTES 95
 #define FAILSAFE_STATE_BYTES 186
+
+/* Places in a Decision's frame. */
+#define FAILSAFE_DECISION_ACTION 4
+#define FAILSAFE_DECISION_REASON 5
+#define FAILSAFE_DECISION_REQUESTED 6
 
 /* One step: the state is rewritten, and the Decision stands in the first 95 bytes of output; later bytes stay.
  * Configuration and fence come with every call and are checked each time. */

@@ -107,9 +107,10 @@ def pack_f32(value, where):
     if value != value:
         return struct.pack("<I", 0x7FC00000)
     try:
-        return struct.pack("<f", value)
+        return struct.pack("<f", float(value))
     except OverflowError:
-        raise Bad(f"{where}: {value} is beyond the largest 32-bit float") from None
+        shown = value if isinstance(value, float) else f"a number of {len(str(value))} digits"
+        raise Bad(f"{where}: {shown} is beyond the largest 32-bit float") from None
 
 
 def pack_flag(value, where):
@@ -436,13 +437,25 @@ def read_bytes(path):
         raise Bad(f"{path}: {error.strerror}") from None
 
 
+def written_float(text):
+    """A number as it is written. Python takes 1e400 for an infinity, which is written Infinity here."""
+    value = float(text)
+    if value in (float("inf"), float("-inf")):
+        raise Bad(f"{text} is beyond the largest 32-bit float")
+    return value
+
+
 def read_flight(path):
     try:
-        return json.loads(read_bytes(path).decode())
+        return json.loads(read_bytes(path).decode(), parse_float=written_float)
     except UnicodeDecodeError:
         raise Bad(f"{path}: not a text file") from None
     except json.JSONDecodeError as error:
         raise Bad(f"{path}: line {error.lineno}, column {error.colno}: {error.msg}") from None
+    except RecursionError:
+        raise Bad(f"{path}: nested too deeply") from None
+    except ValueError:
+        raise Bad(f"{path}: a number has too many digits") from None
 
 
 def times_of(path):
@@ -456,8 +469,11 @@ def times_of(path):
 def pack_command(words):
     packed = pack_flight(read_flight(words[0]))
     if len(words) == 2:
-        with open(words[1], "wb") as file:
-            file.write(packed)
+        try:
+            with open(words[1], "wb") as file:
+                file.write(packed)
+        except OSError as error:
+            raise Bad(f"{words[1]}: {error.strerror}") from None
     else:
         sys.stdout.buffer.write(packed)
 

@@ -1,6 +1,6 @@
 #!/usr/bin/env bash
 # The C example: compiled with warnings as errors, linked with the static library, and what it prints compared with
-# examples/host.out.
+# examples/host.out. Then calls with slices of no bytes (empty.c).
 set -eu
 top=$(cd "$(dirname "${BASH_SOURCE[0]}")/../.." && pwd)
 cd "$top"
@@ -14,7 +14,10 @@ if ! rt staticlib failsafe >"$build/staticlib.out" 2>&1; then
     cat "$build/staticlib.out"
     exit 1
 fi
-gcc -std=c11 -O2 -Wall -Wextra -Werror -pedantic -Iinclude -o "$build/host" examples/host.c target/staticlib/libfailsafe.a
+for source in examples/host.c tests/host/empty.c; do
+    gcc -std=c11 -O2 -Wall -Wextra -Werror -pedantic -Iinclude -o "$build/$(basename "$source" .c)" "$source" target/staticlib/libfailsafe.a
+done
 "$build/host" >"$build/host.out"
 cmp "$build/host.out" examples/host.out
-echo "host: $(wc -l <"$build/host.out") lines, all as kept"
+"$build/empty" <samples/flight.frames
+echo "host: $(wc -l <"$build/host.out") lines, all as kept; empty slices are refused"

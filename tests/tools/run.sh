@@ -29,7 +29,9 @@ tools/frames.py pack "$build/absent.json" "$build/absent.frames" || fail "an all
 tail -c 106 "$build/absent.frames" | cmp -s - <(printf '\150\0\3\0' && head -c 102 /dev/zero) || fail "an all-absent telemetry has other bytes"
 
 # Each: what is bad, what the message has to say.
+tried=0
 bad() { # COMMAND TEXT MESSAGE
+    tried=$((tried + 1))
     printf "$2" >"$build/bad"
     if tools/frames.py "$1" "$build/bad" >"$build/out" 2>"$build/err"; then
         fail "taken, though it is bad: $2"
@@ -45,6 +47,9 @@ bad pack '{"telemetry": [{"now_ms": 1, "armed": 1}]}' 'telemetry[0].armed: true 
 bad pack '{"telemetry": [{"now_ms": 1, "position": {"pos": [1, 2]}}]}' 'telemetry[0].position.pos: three numbers'
 bad pack '{"config": {"v_maxx": 3}}' 'config.v_maxx: there is no such field'
 bad pack '{"config": {"v_max": 1e39}}' 'config.v_max: 1e+39 is beyond'
+bad pack '{"config": {"v_max": 1e400}}' '1e400 is beyond'
+bad pack "{\"config\": {\"v_max\": $(printf '9%.0s' $(seq 400))}}" 'config.v_max: a number of 400 digits is beyond'
+bad pack "$(printf '[%.0s' $(seq 100000))" 'nested too deeply'
 bad pack '{"config": {"cell_count": 256}}' 'config.cell_count: a whole number from 0 to 255'
 bad pack '{"fence": {"corners": [[1, 2], [3]]}}' 'fence.corners[1]: two numbers'
 bad show '\1' 'byte 0: the last frame is cut off (refusal 1)'
@@ -55,6 +60,8 @@ bad show '\2\0\4\0' 'byte 0: Decision: a body of 0 bytes is too short (refusal 3
 bad show '\5\0\377\0\1\0\0' 'byte 0: Refusal: 1 bytes are left over (refusal 3)'
 tools/frames.py show "$build/none" >/dev/null 2>"$build/err"
 [ $? -eq 1 ] || fail "a file that is not there is no error"
+tools/frames.py pack samples/flight.json "$build/none/flight.frames" 2>"$build/err"
+[ $? -eq 1 ] && grep -q "none/flight.frames: No such file" "$build/err" || fail "a file that can't be written: it says $(cat "$build/err")"
 tools/frames.py >/dev/null 2>&1
 [ $? -eq 2 ] || fail "no words are no error"
 
@@ -67,5 +74,5 @@ if rust=$(oracle/run.sh --path decide 2>/dev/null) && streams=$(oracle/run.sh --
     "$streams" --write "$build/defaults.frames" 0 >/dev/null
     head -c -106 "$build/absent.frames" | cmp - "$build/defaults.frames" || fail "the defaults packed are not the Rust's"
 fi
-[ "$failed" -eq 0 ] && echo "the sample's $(wc -l <samples/decisions.txt) Decisions and 18 bad inputs"
+[ "$failed" -eq 0 ] && echo "the sample's $(wc -l <samples/decisions.txt) Decisions and $tried bad inputs"
 exit "$failed"

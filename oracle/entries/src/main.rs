@@ -123,7 +123,6 @@ impl Driver {
         let random = &mut self.random;
         let mut call = sound.clone();
         for _ in 0..1 + random.below(12) {
-            // The 27 timers, the latches, stages and streaks, the stored sample.
             let now = u32::from_le_bytes([
                 call.telemetry[4],
                 call.telemetry[5],
@@ -131,13 +130,21 @@ impl Driver {
                 call.telemetry[7],
             ]);
             let ms = random.one_of(&[now, now.wrapping_sub(5000), now.wrapping_add(1), 0, 1 << 31]);
-            let at = 6 + 5 * random.below(24);
-            match random.below(8) {
+            // The 25 timers, the recovery's start, the disarm hold and the last reading.
+            let at = match random.below(28) {
+                24 => 127,
+                25 => 135,
+                26 => 140,
+                27 => 175,
+                timer => 6 + 5 * timer,
+            };
+            match random.below(9) {
                 0..=2 => put_option(&mut call.state[at..at + 5], Some(ms)),
                 3 => put_option(&mut call.state[at..at + 5], None),
-                4 => put_option(&mut call.state[175..180], Some(ms)),
-                5 => put_option(&mut call.state[175..180], None),
+                4 => call.state[145..174].fill(0),
+                5 => put_sample(&mut call.state[145..174], ms, random),
                 6 => call.state[174] = random.one_of(&[0, 2, 3, 4, 254, 255]),
+                7 => call.state[180..184].copy_from_slice(&ms.to_le_bytes()),
                 _ => {
                     let byte = random.one_of(&[4, 5, 126, 132, 133, 134, 184, 185]);
                     call.state[byte] = random.below(5) as u8;
@@ -185,6 +192,16 @@ fn put_option(to: &mut [u8], value: Option<u32>) {
     }
 }
 
+/// A stored sample near the fence or far off; now and then a number that no state may hold.
+fn put_sample(to: &mut [u8], ms: u32, random: &mut Random) {
+    put_option(&mut to[..5], Some(ms));
+    for number in to[5..].chunks_exact_mut(4) {
+        let x = random.one_of(&[0.0, -0.0, 2.5, -20.0, 499.0, 501.0, 1e-40, f32::MAX]);
+        let x = if random.below(60) == 0 { f32::NAN } else { x };
+        number.copy_from_slice(&x.to_le_bytes());
+    }
+}
+
 /// What the number is about.
 fn part(call: &Call, number: u32) -> &'static str {
     if number == 0 {
@@ -210,7 +227,7 @@ fn main() {
     let mut arguments = std::env::args().skip(1).map(|word| word.parse::<u64>());
     let (steps, seed) = (
         arguments.next().unwrap_or(Ok(100_000)),
-        arguments.next().unwrap_or(Ok(1)),
+        arguments.next().unwrap_or(Ok(3)),
     );
     let (Ok(steps), Ok(seed)) = (steps, seed) else {
         eprintln!("usage: entries [STEPS [SEED]]");
