@@ -5,8 +5,9 @@ use Prim.Native.Nat.{ℕ}
 use mathlib.Core.Bool.{Bool, true, false, not, _||_, cond}
 use mathlib.Core.List.{List, [], _∷_}
 use lib.Dec.{ltb}
-use lib.Ieee.{Float, binary32, ofBits, lt, le}
+use lib.Ieee.{Float, lt, le}
 use Rattle.types.specs.declared.Point2.{Point2}
+use Rattle.float32.specs.Binary32.{zeroF}
 use Rattle.float32.specs.Libm.{isFinite}
 use Rattle.geometry.specs.declared.Geofence.{Geofence}
 use Rattle.geometry.specs.Acceptance.{fenceErrorNumber}
@@ -27,9 +28,6 @@ configErrorNumber ConfigError.BadCellCount = 25
 configErrorNumber ConfigError.BadCapacity = 26
 configErrorNumber ConfigError.BadThresholdOrder = 27
 configErrorNumber ConfigError.DurationOutOfRange = 28
-
-abbrev zeroF : Float
-zeroF = ofBits binary32 0
 
 -- "cells 1 to 14"
 unfoldable pub badCellCount : Config → Bool

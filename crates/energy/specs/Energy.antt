@@ -1,27 +1,13 @@
 -- Document 01, 'energy': "Float operations in the Rust's order. Altitude is −d, so d = +0 gives −0." Assumes nothing.
 use mathlib.Core.Bool.{Bool, false}
-use lib.Ieee.{Float, binary32, add, sub, mul, div, lt, ofBits}
+use lib.Ieee.{Float, binary32, lt, ofBits}
+use Rattle.float32.specs.Binary32.{plus, minus, times, over, zeroF}
 use Rattle.float32.specs.Libm.{fmax}
 use Rattle.types.specs.declared.Vec3.{Vec3}
 use Rattle.types.specs.declared.OptionF32.{OptionF32}
 use Rattle.types.specs.declared.EnergyEstimate.{EnergyEstimate}
 use Rattle.types.specs.Vec3.{altM, horizontalDistHome}
 use Rattle.config.specs.declared.Config.{Config}
-
-abbrev plus : Float → Float → Float
-plus x y = add binary32 x y
-
-abbrev minus : Float → Float → Float
-minus x y = sub binary32 x y
-
-abbrev times : Float → Float → Float
-times x y = mul binary32 x y
-
-abbrev over : Float → Float → Float
-over x y = div binary32 x y
-
-abbrev zeroF : Float
-zeroF = ofBits binary32 0
 
 -- 3600, the joules of a watt-hour (proofs/Constants.antt)
 abbrev pub joulesPerWh : Float

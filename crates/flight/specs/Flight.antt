@@ -6,12 +6,13 @@ use mathlib.Core.List.{List}
 use lib.Dec.{eqb}
 use lib.ListN.{replicate}
 use Rattle.geometry.specs.declared.FenceResult.{FenceResult}
-use Rattle.geometry.specs.Acceptance.{fenceErrorNumber, zeroF, zeroPoint}
+use Rattle.geometry.specs.Acceptance.{fenceErrorNumber, zeroPoint}
 use Rattle.geometry.specs.Distance.{ringOf, sideLengths, signedDistanceBy}
 use Rattle.config.specs.declared.Config.{Config}
 use Rattle.config.specs.declared.ConfigResult.{ConfigResult}
 use Rattle.config.specs.Config.{configErrorNumber, validateConfig}
 use Rattle.config.specs.Default.{defaultConfig}
+use Rattle.float32.specs.Binary32.{zeroF}
 use Rattle.types.specs.declared.Telemetry.{Telemetry}
 use Rattle.supervisor.specs.declared.Supervisor.{Supervisor}
 use Rattle.supervisor.specs.declared.Stepped.{Stepped}

@@ -1,6 +1,7 @@
--- The theorems of `float32`, in SquareRoot and Libm, and what its proofs share.
+-- The theorems of `float32`, in SquareRoot, Libm and Constants, and what its proofs share.
 pub mod SquareRoot
 pub mod Libm
+pub mod Constants
 mod Squares
 mod Round
 mod Patterns

@@ -128,7 +128,6 @@ pub record Found (x : Float) : Type 0 where
   pub same : X * 2 ^ 149 ≡ n * (2 ^ k * 2 ^ k)
   pub n-low : 2 ^ 46 ≤ n
   pub p-low : 2 ^ 23 ≤ p
-  pub p-high : p < 2 ^ 24
   pub below : p * p < n + p
   pub above : n ≤ p * p + p
 
@@ -160,7 +159,6 @@ found x f pos = go (scaled x f pos)
           same = sym (mul-assoc (s .X) (2 ^ 51) (2 ^ 98)) ∙ ap (λ (y : ℕ). y * 2 ^ 98) (s .same ∙ scale q g (s .g-low)) ∙ common n i;
           n-low = lo;
           p-low = a;
-          p-high = b;
           below = r .1;
           above = r .2;
         }

@@ -2,3 +2,4 @@
 pub mod Sqrt
 pub mod Nearest
 pub mod Libm
+pub mod Binary32

@@ -13,7 +13,7 @@ use Rattle.types.specs.declared.Reason.{Reason}
 use Rattle.types.specs.declared.Slot.{Slot}
 use Rattle.types.specs.declared.ActiveSet.{ActiveSet}
 use Rattle.types.specs.Numbers.{rank, index, actionOfRank, fromIndex}
-use Rattle.types.specs.ActiveSet.{noRequest, slotOf, emptySet, setRequest, clearRequest}
+use Rattle.types.specs.ActiveSet.{noRequest, slotOf, emptySet, setRequest}
 use Rattle.wire.specs.Fields.{u8At, flagAt, byteBelow, leFlag, le8, bytesFrom}
 use Rattle.wire.proofs.Whole.{first, second, elements-append}
 use Rattle.options.specs.Options.{zeros, validOption}
@@ -146,10 +146,6 @@ stored l i x e h = put l i ∙ ap (λ (m : List Slot). set m i x) h
 pub canonical-set : (s : ActiveSet) (r : Reason) (a : Action) → Canonical (s .reqs) → Canonical (setRequest s r a .reqs)
 unfolding setRequest
 canonical-set s r a h = stored (s .reqs) (index r) (slotOf r a) refl h
-
-pub canonical-clear : (s : ActiveSet) (r : Reason) → Canonical (s .reqs) → Canonical (clearRequest s r .reqs)
-unfolding clearRequest
-canonical-clear s r h = stored (s .reqs) (index r) noRequest refl h
 
 -- a slot's bytes do not depend on what an absent one holds
 slot-same : (b : Bool) (r : Reason) (a : Action) → leSlot (canonicalSlot (record { present = b; reason = r; action = a })) ≡ leSlot (record { present = b; reason = r; action = a })

@@ -8,9 +8,10 @@ use lib.Ieee.{Float}
 use Rattle.wire.specs.Fields.{u8At, f32At}
 use Rattle.wire.specs.Cell.{Cell, u8, f32, bytesOf}
 use Rattle.wire.specs.Frame.{frameFault, frameHead, roomFault, frameWritten}
+use Rattle.float32.specs.Binary32.{zeroF}
 use Rattle.types.specs.declared.Point2.{Point2}
 use Rattle.geometry.specs.declared.GeofenceResult.{GeofenceResult}
-use Rattle.geometry.specs.Acceptance.{zeroF, zeroPoint, resultAnd, polygonNew, geofenceNew}
+use Rattle.geometry.specs.Acceptance.{zeroPoint, resultAnd, polygonNew, geofenceNew}
 use Rattle.frame_fence.specs.declared.FenceRead.{FenceRead}
 
 unfoldable pub pointAt : List ℕ → ℕ → Point2

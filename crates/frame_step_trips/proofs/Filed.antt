@@ -20,6 +20,7 @@ use Rattle.triggers.specs.Update.{setIf, setOption, linkRequests, fenceRequests
 use Rattle.supervisor.specs.declared.Supervisor.{Supervisor}
 use Rattle.supervisor.specs.Clock.{clockStep}
 use Rattle.supervisor.specs.Step.{triggersAfter, arbiterAfter, glitchAfter, sense, disarmedDecision, disarmed, decisionOf, flown, step}
+use Rattle.supervisor.proofs.Rules.{either}
 use Rattle.frame_decision.specs.Slots.{Canonical}
 use Rattle.frame_decision.proofs.Slots.{canonical-empty, canonical-set}
 
@@ -68,10 +69,6 @@ updated s t cfg lo hi p m i true = canonical-set emptySet Reason.ClockFault Acti
 updated s t cfg lo hi p m i false =
     let f = families s t cfg lo hi p m i in
     batteries (fenceRequests (linkRequests f) (f .fence)) f (fences (linkRequests f) (f .fence) (links f))
-
-either : (A : Bool → Type 0) → A true → A false → (b : Bool) → A b
-either A t f true = t
-either A t f false = f
 
 pub step-canonical : (dist : Point2 → Float) (lo hi : Float) (cfg : Config) (s : Supervisor) (raw : Telemetry) → Canonical (step dist lo hi cfg s raw .decision .active .reqs)
 unfolding step disarmed disarmedDecision flown sense decisionOf

@@ -4,6 +4,7 @@ ghost use Rattle.geometry.specs.Distance.{ringOf, signedDistance};
 ghost use Rattle.supervisor.specs.Rules.{Rules};
 ghost use Rattle.supervisor.specs.Step.{step};
 ghost use Rattle.frame_decision.specs.DecisionFrame.{accepted, canonical};
+ghost use Rattle.frame_state.specs.StateFrame.{readState, stateFrame};
 use config::Config;
 use frame_decision::DecisionRead;
 use frame_state::StateRead;
@@ -12,9 +13,10 @@ use supervisor::Supervisor;
 use types::Decision;
 use types::Telemetry;
 
-// A state that obeys the frame's rules.
+// Any state's frame as the reader answers it: the very state, where it obeys the frame's rules.
 pub fn state_again(x: Supervisor) -> StateRead
     ensures { λ r. ⌜ (Rules x → r ≡ StateRead.Frame x) ⌝ }
+    ensures { λ r. ⌜ r ≡ readState (stateFrame x) ⌝ }
 {
     let mut b = [0u8; 186];
     frame_state::write_state(&mut b, x);
@@ -30,9 +32,10 @@ pub fn decision_again(d: Decision) -> DecisionRead
     frame_decision::read_decision(&b)
 }
 
-// The state after a step from a state that obeys the rules.
+// The same for the state after a step: the very state, where the step began from one that obeys the rules.
 pub fn stepped_state_again(x: Supervisor, cfg: Config, fence: Geofence, raw: Telemetry) -> StateRead
     ensures { λ r. ⌜ (Rules x → r ≡ StateRead.Frame (step (signedDistance (ringOf (fence .poly))) (fence .«min_alt_m») (fence .«max_alt_m») cfg x raw .supervisor)) ⌝ }
+    ensures { λ r. ⌜ r ≡ readState (stateFrame (step (signedDistance (ringOf (fence .poly))) (fence .«min_alt_m») (fence .«max_alt_m») cfg x raw .supervisor)) ⌝ }
 {
     let y = x.step(cfg, fence, raw);
     let s = y.supervisor;

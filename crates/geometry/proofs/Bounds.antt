@@ -5,20 +5,15 @@ use native.Mathlib.Nat.{mul-pos, eq-or-lt-of-le}
 use native.Mathlib.Omega.{arith}
 use mathlib.Core.Logic.{inl, inr}
 use mathlib.Core.Bool.{Bool, true, false, not, _&&_, _||_}
-use lib.Dec.{ltb, lit<}
-use lib.IntN.{ℤ, pos, negsuc}
-use lib.Pow.{pow-pos}
+use lib.Dec.{ltb}
+use lib.IntN.{ℤ}
 use borrow.Author.Tests.{lt-ltb, le-ltb, ltb-true, ltb-false, eqb-true, eqb-false}
 use lib.Ieee.{Float, nan, inf, fin, lt, le, eq, up, down}
+use lib.Ieee.Fits.{up-pos, down-pos}
 use Rattle.float32.specs.Libm.{isFinite, fabs}
 use Rattle.geometry.specs.Acceptance.{resultAnd, faultIf}
 use Rattle.geometry.specs.Round.{failed}
 use Rattle.geometry.specs.declared.FenceError.{FenceError}
-use Rattle.geometry.proofs.Inside.{down-pos}
-
-up-pos : (e : ℤ) → 0 < up e
-up-pos (pos k) = pow-pos k
-up-pos (negsuc k) = lit< tt
 
 and-true : (b : Bool) → (b && true) ≡ b
 and-true true = refl

@@ -1,14 +1,9 @@
 -- The constants are the binary32 numbers nearest to what document 01 says. Assumes nothing.
 use mathlib.Core.Path.{_≡_, refl}
 use mathlib.Core.Bool.{true, false}
-use lib.IntN.{pos}
-use lib.Ieee.{binary32, round, ofBits, neg, fin}
-use Rattle.geometry.specs.Acceptance.{zeroF, envelope, leastTurn, leastArea, half}
+use lib.Ieee.{binary32, round, ofBits, neg}
+use Rattle.geometry.specs.Acceptance.{envelope, leastTurn, leastArea, half}
 use Rattle.geometry.specs.Distance.{minusOne, leastLength}
-
-pub zero-is : zeroF ≡ fin false 0 (pos 0)
-unfolding ofBits
-zero-is = refl
 
 pub minus-one-is : minusOne ≡ round binary32 true 1 1
 unfolding ofBits neg round

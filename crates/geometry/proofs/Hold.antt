@@ -14,7 +14,7 @@ use lib.Ieee.{Float, nan, inf}
 use Rattle.types.specs.declared.Point2.{Point2}
 use Rattle.geometry.specs.Ring.{pairs, sides}
 use Rattle.geometry.specs.Acceptance.{heldOrder, placeHeld}
-use Rattle.geometry.specs.Distance.{minusOne, least, edgeSignedDistance, edgeSignedDistanceBy, signedDistance, signedDistanceBy}
+use Rattle.geometry.specs.Distance.{minusOne, least, edgeSignedDistanceBy, signedDistanceBy}
 
 module _ {A : Type 0} where
   reverse-place : (a : A) (l : List A) (i : ℕ) (d : A) → ((i < length l) → getD (reverse l) i d ≡ getD l (length l - 1 - i) d) → (i ≡ length l) ⊎ (i < length l)
@@ -89,7 +89,3 @@ pub distance-many : (l : List Point2) (ms : List Float) (p : Point2) → 3 ≤ l
     → signedDistanceBy l ms p ≡ least (edgeSignedDistanceBy p) (inf false) (pairs (sides l) ms)
 unfolding signedDistanceBy
 distance-many l ms p h = rw (le-ltb (length l) 3 h)
-
-pub distance-least : (l : List Point2) (p : Point2) → 3 ≤ length l → signedDistance l p ≡ least (edgeSignedDistance p) (inf false) (sides l)
-unfolding signedDistance
-distance-least l p h = rw (le-ltb (length l) 3 h)

@@ -3,7 +3,6 @@ pub mod Laws
 pub mod Hold
 pub mod Lengths
 pub mod Callers
-pub mod Inside
 pub mod Constants
 pub mod Bounds
 pub mod Around

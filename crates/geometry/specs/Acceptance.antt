@@ -5,6 +5,7 @@ use mathlib.Core.List.{List, [], _∷_, _++_, reverse}
 use lib.Dec.{ltb}
 use lib.ListN.{length, replicate}
 use lib.Ieee.{Float, binary32, add, sub, mul, lt, le, eq, ofBits}
+use Rattle.float32.specs.Binary32.{zeroF}
 use Rattle.float32.specs.Libm.{isFinite, fabs}
 use Rattle.types.specs.declared.Point2.{Point2}
 use Rattle.geometry.specs.Ring.{fold, any, sides, turns, tails}
@@ -13,9 +14,6 @@ use Rattle.geometry.specs.declared.FenceResult.{FenceResult}
 use Rattle.geometry.specs.declared.ConvexPolygon.{ConvexPolygon}
 use Rattle.geometry.specs.declared.PolygonResult.{PolygonResult}
 use Rattle.geometry.specs.declared.GeofenceResult.{GeofenceResult}
-
-abbrev pub zeroF : Float
-zeroF = ofBits binary32 0
 
 -- 10,000; 0.0001; 100; 0.5: proofs/Constants.antt has that each is the nearest binary32 number
 abbrev pub envelope : Float

@@ -5,11 +5,12 @@ use mathlib.Core.List.{List, _++_, map}
 use lib.Dec.{ltb}
 use lib.ListN.{length, take, getD, replicate}
 use lib.Ieee.{Float, inf, binary32, add, sub, mul, div, neg, lt, le, ofBits}
+use Rattle.float32.specs.Binary32.{zeroF}
 use Rattle.float32.specs.Sqrt.{squareRoot}
 use Rattle.types.specs.declared.Point2.{Point2}
 use Rattle.types.specs.declared.OptionPoint2.{OptionPoint2}
 use Rattle.geometry.specs.Ring.{fold, pairs, sides}
-use Rattle.geometry.specs.Acceptance.{zeroF, zeroPoint}
+use Rattle.geometry.specs.Acceptance.{zeroPoint}
 use Rattle.geometry.specs.declared.ConvexPolygon.{ConvexPolygon}
 use Rattle.geometry.specs.declared.SideLengths.{SideLengths}
 

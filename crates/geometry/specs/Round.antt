@@ -4,9 +4,10 @@ use mathlib.Core.Bool.{Bool, true, false, cond}
 use mathlib.Core.List.{List}
 use lib.Dec.{ltb}
 use lib.Ieee.{lt}
+use Rattle.float32.specs.Binary32.{zeroF}
 use Rattle.types.specs.declared.Point2.{Point2}
 use Rattle.geometry.specs.Ring.{any, turns}
-use Rattle.geometry.specs.Acceptance.{zeroF, cornerFault, flatTurn, cross2, polygonArea}
+use Rattle.geometry.specs.Acceptance.{cornerFault, flatTurn, cross2, polygonArea}
 use Rattle.geometry.specs.declared.FenceResult.{FenceResult}
 use Rattle.geometry.specs.declared.Round.{Round}
 

@@ -19,7 +19,7 @@ use Rattle.geometry.specs.Distance.{sideLength, edgeSignedDistanceBy, signedDis
 use Rattle.config.specs.Default.{decimal, defaultFence}
 use Rattle.validate.specs.Glitch.{distanceBetween, withinJump, acceptSample, applyGlitchFilter}
 use Rattle.arbiter.specs.Arbiter.{request, recover, applyPersistence, applyFeasibility, arbitrate}
-use Rattle.instances.specs.Table.{Table, whole, triangle, northOf, fenceDistance, filteredAt, returning, warnAt}
+use Rattle.instances.specs.Table.{Table, whole, triangle, northOf, fenceDistance, filteredAt, shownAt}
 
 age-wraps : age 5 4294967291 ≡ OptionU32.Some 10
 unfolding wrappingSub age
@@ -92,11 +92,11 @@ jump-refused : filteredAt 56 ≡ OptionPositionSample.None
 unfolding add sub mul div neg le lt eq ofBits ofInt round wrappingSub age squareRoot distanceBetween withinJump acceptSample applyGlitchFilter
 jump-refused = refl
 
-hold-unmet : warnAt (warnAt returning 1000) 5999 .«prev_output» ≡ Action.ReturnToLaunch
+hold-unmet : shownAt 5999 ≡ Action.ReturnToLaunch
 unfolding wrappingSub age holdMet recover applyPersistence applyFeasibility arbitrate
 hold-unmet = refl
 
-hold-met : warnAt (warnAt returning 1000) 6000 .«prev_output» ≡ Action.Warn
+hold-met : shownAt 6000 ≡ Action.Warn
 unfolding wrappingSub age holdMet recover applyPersistence applyFeasibility arbitrate
 hold-met = refl
 

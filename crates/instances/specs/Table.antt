@@ -23,6 +23,7 @@ use Rattle.config.specs.Default.{decimal, defaultFence}
 use Rattle.validate.specs.declared.GlitchState.{GlitchState}
 use Rattle.validate.specs.Glitch.{applyGlitchFilter}
 use Rattle.arbiter.specs.declared.ArbiterState.{ArbiterState}
+use Rattle.arbiter.specs.declared.Arbitrated.{Arbitrated}
 use Rattle.arbiter.specs.Arbiter.{request, arbitrate}
 
 -- a whole number
@@ -32,7 +33,7 @@ whole n = decimal n 1
 abbrev pub at : Float → Float → Point2
 at n e = record { n = n; e = e }
 
--- the distance from the default fence of a point east of nothing
+-- the distance from the default fence of the point (n, 0)
 abbrev pub fenceDistance : ℕ → Float
 fenceDistance n = signedDistance (ringOf (defaultFence .fence .poly)) (at (whole n) (whole 0))
 
@@ -61,8 +62,12 @@ abbrev pub returning : ArbiterState
 returning = record { «prev_output» = Action.ReturnToLaunch; «prev_reason» = Reason.RcLost; «recovery_since_ms» = OptionU32.None }
 
 -- Warn is wanted, with a valid position and no fault, under a hold of 5000
-abbrev pub warnAt : ArbiterState → ℕ → ArbiterState
-warnAt s now = arbitrate s now 5000 (request Reason.BatteryWarn Action.Warn) true false .state
+abbrev pub warnAt : ArbiterState → ℕ → Arbitrated
+warnAt s now = arbitrate s now 5000 (request Reason.BatteryWarn Action.Warn) true false
+
+-- the action shown at a later step that wants it still, the first at 1000
+abbrev pub shownAt : ℕ → Action
+shownAt now = warnAt (warnAt returning 1000 .state) now .output .action
 
 -- "given | answer"
 pub record Table : Type 0 where
@@ -92,5 +97,5 @@ pub record Table : Type 0 where
   pub jump-kept : filteredAt 55 ≡ OptionPositionSample.Some (northOf 2000 55)
   pub jump-refused : filteredAt 56 ≡ OptionPositionSample.None
   -- ReturnToLaunch shown, position valid, Warn wanted from 1000, hold 5000: at 5999, 6000 | ReturnToLaunch; Warn
-  pub hold-unmet : warnAt (warnAt returning 1000) 5999 .«prev_output» ≡ Action.ReturnToLaunch
-  pub hold-met : warnAt (warnAt returning 1000) 6000 .«prev_output» ≡ Action.Warn
+  pub hold-unmet : shownAt 5999 ≡ Action.ReturnToLaunch
+  pub hold-met : shownAt 6000 ≡ Action.Warn

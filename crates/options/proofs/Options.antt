@@ -21,14 +21,10 @@ use Rattle.wire.specs.Cell.{Within}
 use Rattle.wire.proofs.Fields.{u32-back, f32-back, u32-bytes}
 use Rattle.options.proofs.Zeros.{zeros-part, zeros-u8, zero-number}
 
--- "all zero bytes where absent"; a byte 1 and the value where present
+-- "all zero bytes where absent"
 pub absent-u8 : leOptionU8 OptionU8.None ≡ replicate 2 0
 unfolding leOptionU8 le8 leFlag
 absent-u8 = refl
-
-pub absent-u32 : leOptionU32 OptionU32.None ≡ replicate 5 0
-unfolding leOptionU32 le32 leBytes leFlag
-absent-u32 = refl
 
 pub absent-f32 : leOptionF32 OptionF32.None ≡ replicate 5 0
 unfolding leOptionF32 leF32 le32 leBytes leFlag toBits ofBits
@@ -37,14 +33,6 @@ absent-f32 = refl
 pub absent-position : leOptionPosition OptionPositionSample.None ≡ replicate 29 0
 unfolding leOptionPosition leVec3 leF32 le32 leBytes leFlag toBits ofBits
 absent-position = refl
-
-pub present-u32 : (n : ℕ) → leOptionU32 (OptionU32.Some n) ≡ 1 ∷ le32 n
-unfolding leOptionU32 leFlag
-present-u32 n = refl
-
-pub present-f32 : (x : Float) → leOptionF32 (OptionF32.Some x) ≡ 1 ∷ leF32 x
-unfolding leOptionF32 leFlag
-present-f32 x = refl
 
 -- the value, its bytes, the value
 pub option-u8-back : (o : OptionU8) → optionU8At (leOptionU8 o) 0 ≡ o

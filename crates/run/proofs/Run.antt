@@ -22,7 +22,7 @@ use Rattle.supervisor.specs.declared.Supervisor.{Supervisor}
 use Rattle.supervisor.specs.declared.Stepped.{Stepped}
 use Rattle.supervisor.specs.Step.{freshSupervisor, step}
 use Rattle.supervisor.specs.Rules.{Rules}
-use Rattle.supervisor.proofs.Rules.{fresh-rules, step-rules}
+use Rattle.supervisor.proofs.Rules.{either, fresh-rules, step-rules}
 use Rattle.wire.specs.Fields.{Bytes, u8At, leBytes, le8, le16}
 use Rattle.wire.specs.Frame.{frameFault, frameHead, roomFault}
 use Rattle.options.specs.Enums.{actionOrNominal, actionAt, leAction}
@@ -44,8 +44,7 @@ use Rattle.failsafe.proofs.Declined.{declined-keeps}
 use Rattle.ladder.specs.Record.{Line, stateAfter, recordOf, stepsOf}
 use Rattle.ladder.specs.Claim.{ObeysAll}
 use Rattle.ladder.proofs.Run.{ladder-claim}
-use Rattle.run.specs.Run.{Call, stateBytes, answered, UnderOne, fed, recordOfCalls, flight, dist, RunClaim}
-use Rattle.run.proofs.Small.{either}
+use Rattle.run.specs.Run.{Call, shownAction, stateBytes, answered, UnderOne, fed, recordOfCalls, flight, dist, RunClaim}
 use Rattle.run.proofs.Typed.{fresh-typed, step-typed, read-now, read-position}
 
 -- ---- an accepted flight steps with the fence's own distance
@@ -87,11 +86,19 @@ roomy next state output z = at (ltb (length output) 95) z
 
 -- ---- the action that a Decision's frame shows
 
-action-shown : (d : Decision) (rest : List ℕ) → actionAt (decisionFrame d ++ rest) 4 ≡ d .action
+action-shown : (d : Decision) (rest : List ℕ) → shownAction (decisionFrame d ++ rest) ≡ d .action
 unfolding actionAt u8At decisionFrame frameHead le16 leBytes leAction le8
 action-shown d rest = ap actionOrNominal (action-of-rank (d .action))
 
-module _ (config fence : List ℕ) (ok : flight config fence .refused ≡ 0) where
+-- ---- a run begins with a fresh state
+
+begins : (slice : List ℕ) → length slice ≡ 186 → (freshCall slice .number ≡ 0) × (freshCall slice .state ≡ stateFrame freshSupervisor)
+unfolding freshCall roomFault
+begins slice h =
+    let s = state-size freshSupervisor in
+    (rw (le-ltb (length slice) (length (stateFrame freshSupervisor)) (omega arith)), state-written freshSupervisor slice h)
+
+module _ (slice : List ℕ) (room : length slice ≡ 186) (config fence : List ℕ) (ok : flight config fence .refused ≡ 0) where
   cfg : Config
   cfg = flight config fence .cfg
 
@@ -129,14 +136,14 @@ module _ (config fence : List ℕ) (ok : flight config fence .refused ≡ 0) whe
   Leaves x c f state telemetry output =
       let next = step (dist config fence) lo hi cfg x (telemetryAt telemetry) in
       stepCall c f state telemetry output .number ≡ 0
-      → (stepCall c f state telemetry output .state ≡ stateFrame (next .supervisor)) × (actionAt (stepCall c f state telemetry output .output) 4 ≡ next .decision .action)
+      → (stepCall c f state telemetry output .state ≡ stateFrame (next .supervisor)) × (shownAction (stepCall c f state telemetry output .output) ≡ next .decision .action)
 
   leaves : (x : Supervisor) (state telemetry output : List ℕ) → readState state ≡ StateRead.Frame x → Leaves x config fence state telemetry output
   leaves x state telemetry output r z =
       let is = stepped x state telemetry output r z in
       let next = step (dist config fence) lo hi cfg x (telemetryAt telemetry) in (
         ap (λ (q : StepCall). q .state) is,
-        ap (λ (q : StepCall). actionAt (q .output) 4) is ∙ action-shown (next .decision) (drop 95 output),
+        ap (λ (q : StepCall). shownAction (q .output)) is ∙ action-shown (next .decision) (drop 95 output),
       )
 
   leaves-any : (x : Supervisor) (c : Call) (state : List ℕ) → c .config ≡ config → c .fence ≡ fence → readState state ≡ StateRead.Frame x → Leaves x (c .config) (c .fence) state (c .telemetry) (c .output)
@@ -144,21 +151,21 @@ module _ (config fence : List ℕ) (ok : flight config fence .refused ≡ 0) whe
       subst (λ (f : List ℕ). Leaves x (c .config) f state (c .telemetry) (c .output)) (sym q)
       (subst (λ (d : List ℕ). Leaves x d fence state (c .telemetry) (c .output)) (sym p) (leaves x state (c .telemetry) (c .output) r))
 
-  next : (c : Call) (earlier : List Call) → Bytes (c .telemetry) → ((answered c earlier .number ≡ 0 → ⊥) ⊎ ((c .config ≡ config) × (c .fence ≡ fence))) → Agrees (stateBytes earlier) (fed earlier) (recordOfCalls earlier) → Agrees (stateBytes (c ∷ earlier)) (fed (c ∷ earlier)) (recordOfCalls (c ∷ earlier))
+  next : (c : Call) (earlier : List Call) → Bytes (c .telemetry) → ((answered slice c earlier .number ≡ 0 → ⊥) ⊎ ((c .config ≡ config) × (c .fence ≡ fence))) → Agrees (stateBytes slice earlier) (fed slice earlier) (recordOfCalls slice earlier) → Agrees (stateBytes slice (c ∷ earlier)) (fed slice (c ∷ earlier)) (recordOfCalls slice (c ∷ earlier))
   unfolding stateBytes fed recordOfCalls stateAfter recordOf after
-  next c earlier bytes under i = at (eqb (answered c earlier .number) 0) refl
+  next c earlier bytes under i = at (eqb (answered slice c earlier .number) 0) refl
     where
       t : Telemetry
       t = telemetryAt (c .telemetry)
 
-      at : (b : Bool) → eqb (answered c earlier .number) 0 ≡ b → Agrees (answered c earlier .state) (cond b (t ∷ fed earlier) (fed earlier)) (cond b (record { fed = t; action = actionAt (answered c earlier .output) 4 } ∷ recordOfCalls earlier) (recordOfCalls earlier))
-      at false e = record { image = declined-keeps (c .config) (c .fence) (stateBytes earlier) (c .telemetry) (c .output) e .0 ∙ i .image; typed = i .typed; rules = i .rules; record-is = i .record-is }
+      at : (b : Bool) → eqb (answered slice c earlier .number) 0 ≡ b → Agrees (answered slice c earlier .state) (cond b (t ∷ fed slice earlier) (fed slice earlier)) (cond b (record { fed = t; action = shownAction (answered slice c earlier .output) } ∷ recordOfCalls slice earlier) (recordOfCalls slice earlier))
+      at false e = record { image = declined-keeps (c .config) (c .fence) (stateBytes slice earlier) (c .telemetry) (c .output) e .0 ∙ i .image; typed = i .typed; rules = i .rules; record-is = i .record-is }
       at true e =
-          let z = eqb-true (answered c earlier .number) 0 e in
+          let z = eqb-true (answered slice c earlier .number) 0 e in
           let one = ⊎-elim (λ n. absurd (n z)) (λ (o : (c .config ≡ config) × (c .fence ≡ fence)). o) under in
-          let x = after (fed earlier) in
+          let x = after (fed slice earlier) in
           let r = ap readState (i .image) ∙ value-back x (i .typed) (i .rules) in
-          let l = leaves-any x c (stateBytes earlier) (one .0) (one .1) r z in
+          let l = leaves-any x c (stateBytes slice earlier) (one .0) (one .1) r z in
           record {
             image = l .0;
             typed = step-typed (dist config fence) lo hi cfg x t (i .typed) (read-now (c .telemetry) bytes) (read-position (c .telemetry) bytes);
@@ -166,28 +173,22 @@ module _ (config fence : List ℕ) (ok : flight config fence .refused ≡ 0) whe
             record-is = λ j. record { fed = t; action = l .1 j } ∷ i .record-is j;
           }
 
-  agrees : (calls : List Call) → UnderOne config fence calls → Agrees (stateBytes calls) (fed calls) (recordOfCalls calls)
+  agrees : (calls : List Call) → UnderOne slice config fence calls → Agrees (stateBytes slice calls) (fed slice calls) (recordOfCalls slice calls)
   unfolding stateBytes fed recordOfCalls stateAfter recordOf after
-  agrees [] u = record { image = refl; typed = fresh-typed; rules = fresh-rules; record-is = refl }
+  agrees [] u = record { image = begins slice room .1; typed = fresh-typed; rules = fresh-rules; record-is = refl }
   agrees (c ∷ earlier) u = next c earlier (u .0) (u .1 .0) (agrees earlier (u .1 .1))
 
 -- the theorem
 pub run-claim : RunClaim
 unfolding cfg lo hi after
-run-claim config fence ok calls u =
-    let a = agrees config fence ok calls u in
+run-claim slice room config fence ok calls u =
+    let a = agrees slice room config fence ok calls u in
     record {
+      begun = begins slice room .0;
       ladder =
           subst
           (λ (l : List Line). ObeysAll (flight config fence .cfg .«recovery_hold_ms») (stepsOf (dist config fence) (flight config fence .fence .«min_alt_m») (flight config fence .fence .«max_alt_m») (flight config fence .cfg) l))
           (sym (a .record-is))
-          (ladder-claim (dist config fence) (flight config fence .fence .«min_alt_m») (flight config fence .fence .«max_alt_m») (flight config fence .cfg) (fed calls));
+          (ladder-claim (dist config fence) (flight config fence .fence .«min_alt_m») (flight config fence .fence .«max_alt_m») (flight config fence .cfg) (fed slice calls));
       accepted = ap readState (a .image) ∙ value-back _ (a .typed) (a .rules);
     }
-
--- a run begins with what `failsafe_fresh` leaves in a state slice of 186 bytes
-pub fresh-begins : (state : List ℕ) → length state ≡ 186 → (freshCall state .number ≡ 0) × (freshCall state .state ≡ stateBytes [])
-unfolding freshCall roomFault stateBytes
-fresh-begins state h =
-    let s = state-size freshSupervisor in
-    (rw (le-ltb (length state) (length (stateFrame freshSupervisor)) (omega arith)), state-written freshSupervisor state h)

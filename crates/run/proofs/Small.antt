@@ -11,6 +11,7 @@ use Rattle.types.specs.declared.OptionF32.{OptionF32}
 use Rattle.types.specs.declared.Telemetry.{Telemetry}
 use Rattle.config.specs.declared.Config.{Config}
 use Rattle.validate.specs.Fresh.{freshTrue}
+use Rattle.supervisor.proofs.Rules.{either}
 use Rattle.wire.specs.Cell.{Within}
 use Rattle.options.specs.Options.{u32OrZero}
 use Rattle.triggers.specs.declared.Timer.{Timer}
@@ -35,10 +36,6 @@ SmallTimer t = Small (t .«since_ms»)
 pub chosen : {A : Type 0} (P : A → Type 0) (b : Bool) (x y : A) → P x → P y → P (cond b x y)
 chosen P true x y p q = p
 chosen P false x y p q = q
-
-pub either : (A : Bool → Type 0) → A true → A false → (b : Bool) → A b
-either A t f true = t
-either A t f false = f
 
 since-small : (o : OptionU32) (now : ℕ) → Small o → now < 2 ^ 32 → sinceOr o now < 2 ^ 32
 since-small OptionU32.None now h n = n

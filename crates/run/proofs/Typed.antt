@@ -36,6 +36,7 @@ use Rattle.supervisor.specs.declared.Supervisor.{Supervisor}
 use Rattle.supervisor.specs.declared.ClockStep.{ClockStep}
 use Rattle.supervisor.specs.Clock.{clockFault, soundClock, byAge, clockStep}
 use Rattle.supervisor.specs.Step.{freshSupervisor, triggersAfter, arbiterAfter, glitchAfter, sense, disarmed, flown, step}
+use Rattle.supervisor.proofs.Rules.{either}
 use Rattle.wire.specs.Cell.{Within}
 use Rattle.wire.specs.Fields.{Bytes, flagAt, u32At}
 use Rattle.wire.proofs.Fields.{u32-lt, f32-fits}
@@ -43,7 +44,7 @@ use Rattle.options.specs.Options.{u32OrZero}
 use Rattle.options.specs.Position.{vec3At, positionCells, optionPositionAt}
 use Rattle.frame_state.specs.StateFrame.{timerCells, Typed}
 use Rattle.frame_telemetry.specs.TelemetryFrame.{telemetryAt}
-use Rattle.run.proofs.Small.{Small, chosen, either, timers-small}
+use Rattle.run.proofs.Small.{Small, chosen, timers-small}
 
 abbrev Stored : OptionPositionSample → Type 0
 Stored o = Within (positionCells o)

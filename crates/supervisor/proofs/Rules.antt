@@ -40,7 +40,8 @@ both true true h = (refl, refl)
 both true false h = (refl, h)
 both false b h = absurd (false≢true h)
 
-either : (A : Bool → Type 0) → A true → A false → (b : Bool) → A b
+-- what holds in both cases holds
+pub either : (A : Bool → Type 0) → A true → A false → (b : Bool) → A b
 either A t f true = t
 either A t f false = f
 

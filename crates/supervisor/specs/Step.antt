@@ -2,7 +2,8 @@
 -- `dist` is the distance from the fence at a point: every definition that reads it takes it as an argument.
 use Prim.Native.Nat.{ℕ}
 use mathlib.Core.Bool.{Bool, true, false, cond}
-use lib.Ieee.{Float, binary32, ofBits}
+use lib.Ieee.{Float}
+use Rattle.float32.specs.Binary32.{zeroF}
 use Rattle.types.specs.declared.Action.{Action}
 use Rattle.types.specs.declared.Reason.{Reason}
 use Rattle.types.specs.declared.Request.{Request}
@@ -72,7 +73,7 @@ glitchAfter third g = cond third noGlitch g
 -- ---- what is sensed
 
 abbrev pub origin : Vec3
-origin = record { n = ofBits binary32 0; e = ofBits binary32 0; d = ofBits binary32 0 }
+origin = record { n = zeroF; e = zeroF; d = zeroF }
 
 module _ (dist : Point2 → Float) where
   -- what is read of a position

@@ -4,6 +4,7 @@ use mathlib.Core.Bool.{Bool, true, false, not, _&&_, _||_, cond}
 use lib.Dec.{leb, ltb, eqb}
 use lib.IntN.{pos}
 use lib.Ieee.{Float, binary32, add, sub, mul, lt, le, ofBits, ofInt}
+use Rattle.float32.specs.Binary32.{zeroF, two}
 use Rattle.types.specs.declared.Action.{Action}
 use Rattle.types.specs.declared.OptionAction.{OptionAction}
 use Rattle.types.specs.declared.OptionU8.{OptionU8}
@@ -31,9 +32,6 @@ use Rattle.triggers.specs.declared.BatteryHeld.{BatteryHeld}
 use Rattle.triggers.specs.declared.EnergyHeld.{EnergyHeld}
 use Rattle.triggers.specs.declared.TriggerState.{TriggerState}
 use Rattle.triggers.specs.Timer.{cleared, pending, heldSet, holdPair}
-
-abbrev zeroF : Float
-zeroF = ofBits binary32 0
 
 -- ---- invalid input: active from an invalid step until the clear timer is met
 
@@ -76,7 +74,8 @@ gcsClearing timer stage now clearHold =
       request = cond (h .met) OptionAction.None (stageRequest stage);
     }
 
--- "At an age above gcs_clear_ms and at most gcs_warn_ms no link request is made, whatever the stage": the clear timer starts anew after that
+-- "At an age above gcs_clear_ms and at most gcs_warn_ms no link request is made, whatever the stage": the clear timer starts anew after that.
+-- The greater stages are tested first, as in the Rust: docs/DIFFERENCES.md has the case where a limit of theirs is below gcs_warn_ms.
 unfoldable pub gcsLink : Timer → ℕ → ℕ → OptionU32 → Config → GcsLink
 gcsLink timer stage now heartbeat cfg =
     let a = gcsAge now heartbeat in
@@ -110,12 +109,9 @@ abbrev pub manySats : OptionU8 → Bool
 manySats OptionU8.None = false
 manySats (OptionU8.Some n) = leb 10 n
 
--- above 2.5, or none told; at most 2 (proofs/Constants.antt)
+-- above 2.5 (proofs/Constants.antt), or none told; at most 2
 abbrev pub twoAndAHalf : Float
 twoAndAHalf = ofBits binary32 0x4020_0000
-
-abbrev pub two : Float
-two = ofBits binary32 0x4000_0000
 
 abbrev pub poorHdop : OptionF32 → Bool
 poorHdop OptionF32.None = true

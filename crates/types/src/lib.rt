@@ -2,7 +2,7 @@
 ghost use mathlib.Core.Path.{_≡_};
 ghost use Rattle.types.specs.Vec3.{altM, horizontalDistHome};
 ghost use Rattle.types.specs.Numbers.{fixNumber, fixOfNumber, landedNumber, landedOfNumber, rank, actionOfRank, index, fromIndex, displayPriority};
-ghost use Rattle.types.specs.ActiveSet.{noRequest, higherRequest, emptySet, setRequest, clearRequest, requestedAction};
+ghost use Rattle.types.specs.ActiveSet.{noRequest, higherRequest, emptySet, setRequest, clearRequest, requestedAction, Highest};
 
 pub const MAX_FENCE_VERTS: usize = 16;
 
@@ -437,6 +437,7 @@ impl ActiveSet {
     // Slot by slot and not by a loop: where each index is known, absent slots cost one test each.
     pub fn requested_action(self) -> Request
         ensures { λ r. ⌜ r ≡ requestedAction (self .reqs) ⌝ }
+        ensures { λ r. ⌜ Highest (self .reqs) r ⌝ }
     {
         let r = self.reqs;
         let mut best = Request {

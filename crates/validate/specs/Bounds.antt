@@ -1,6 +1,7 @@
 -- Document 01, 'validate': "Bounds as in the Rust; stale readings are checked too." Assumes nothing.
 use mathlib.Core.Bool.{Bool, true, false, not, _&&_, cond}
-use lib.Ieee.{Float, binary32, add, mul, neg, lt, le, ofBits}
+use lib.Ieee.{Float, binary32, neg, lt, le, ofBits}
+use Rattle.float32.specs.Binary32.{plus, times, zeroF}
 use Rattle.float32.specs.Sqrt.{squareRoot}
 use Rattle.float32.specs.Libm.{isFinite, fabs}
 use Rattle.types.specs.declared.Vec3.{Vec3}
@@ -14,16 +15,7 @@ use Rattle.types.specs.declared.Telemetry.{Telemetry}
 use Rattle.types.specs.Vec3.{altM}
 use Rattle.validate.specs.declared.ValidatedTelemetry.{ValidatedTelemetry}
 
-abbrev plus : Float → Float → Float
-plus x y = add binary32 x y
-
-abbrev times : Float → Float → Float
-times x y = mul binary32 x y
-
--- 0; 100; 1.1; 2,000; 10,000 (proofs/Constants.antt)
-abbrev pub zeroF : Float
-zeroF = ofBits binary32 0
-
+-- 100; 1.1; 2,000; 10,000 (proofs/Constants.antt)
 abbrev pub hundred : Float
 hundred = ofBits binary32 0x42C8_0000
 

@@ -3,7 +3,8 @@ use Prim.Native.Nat.{ℕ, _+_, min}
 use mathlib.Core.Bool.{Bool, true, _||_, cond}
 use lib.Dec.{leb, ltb}
 use lib.IntN.{pos}
-use lib.Ieee.{Float, binary32, add, sub, mul, div, le, ofBits, ofInt}
+use lib.Ieee.{Float, binary32, le, ofBits, ofInt}
+use Rattle.float32.specs.Binary32.{plus, minus, times, over, two}
 use Rattle.float32.specs.Sqrt.{squareRoot}
 use Rattle.types.specs.declared.Vec3.{Vec3}
 use Rattle.types.specs.declared.OptionU32.{OptionU32}
@@ -13,19 +14,7 @@ use Rattle.time.specs.Time.{age}
 use Rattle.validate.specs.declared.GlitchState.{GlitchState}
 use Rattle.validate.specs.declared.Filtered.{Filtered}
 
-abbrev plus : Float → Float → Float
-plus x y = add binary32 x y
-
-abbrev minus : Float → Float → Float
-minus x y = sub binary32 x y
-
-abbrev times : Float → Float → Float
-times x y = mul binary32 x y
-
--- 2; 5; 1,000 (proofs/Constants.antt)
-abbrev pub two : Float
-two = ofBits binary32 0x4000_0000
-
+-- 5; 1,000 (proofs/Constants.antt)
 abbrev pub five : Float
 five = ofBits binary32 0x40A0_0000
 
@@ -46,7 +35,7 @@ distanceBetween a b =
 -- "distance at most v_max × seconds × 2 + 5"
 unfoldable pub withinJump : Float → ℕ → Float → Bool
 withinJump dist gap vMax =
-    let seconds = div binary32 (ofInt binary32 (pos gap)) thousand in
+    let seconds = over (ofInt binary32 (pos gap)) thousand in
     le dist (plus (times (times vMax seconds) two) five)
 
 -- "Seconds run from the stored stamp to now": by the stored sample's age

@@ -16,10 +16,10 @@ slice-aggregate-read-state c = search needs
 
 returns : tie.Need-returns
 returns c =
-    λ r.
     let a = c .before .before .before .before .before in
     let x = a .args .x in
-    c .read-state .ensures ∙ ap readState (c .before .before .before .write-state .ensures .1 ∙ filled-state x) ∙ value-back x (owned-typed x _ (a .good .0)) r
+    let read = c .read-state .ensures ∙ ap readState (c .before .before .before .write-state .ensures .1 ∙ filled-state x) in
+    ((λ r. read ∙ value-back x (owned-typed x _ (a .good .0)) r), read)
 
 pub state-again-spec : {M : Type 1} → statement M
 state-again-spec =

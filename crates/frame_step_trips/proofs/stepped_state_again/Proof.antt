@@ -4,7 +4,7 @@ use borrow.Author.Needs.{needs}
 use Rattle.supervisor.specs.declared.Stepped.{Stepped}
 use Rattle.supervisor.specs.Rules.{Rules}
 use Rattle.supervisor.proofs.Rules.{step-rules}
-use Rattle.frame_state.specs.StateFrame.{readState}
+use Rattle.frame_state.specs.StateFrame.{readState, stateFrame}
 use Rattle.frame_state.specs.declared.StateRead.the-variants.{Frame}
 use Rattle.frame_state.proofs.Trips.{value-back}
 use Rattle.frame_state.proofs.Owned.{owned-typed}
@@ -20,16 +20,17 @@ slice-aggregate-read-state c = search needs
 
 returns : tie.Need-returns
 returns c =
-    λ r.
     let y = c .before .before .before .before .before .before .step in
     let a = c .before .before .before .before .before .before .before .args in
     let x = y .result .supervisor in
     let e = y .ensures in
-    let rules = step-rules _ _ _ (a .cfg) (a .x) (a .raw) r in
-    c .read-state .ensures
-    ∙ ap readState (c .before .before .before .write-state .ensures .1 ∙ filled-state x)
-    ∙ value-back x (owned-typed x _ (y .ok .1 .1 .0)) (subst (λ (z : Stepped). Rules (z .supervisor)) (sym e) rules)
-    ∙ (λ i. Frame (e i .supervisor))
+    let read = c .read-state .ensures ∙ ap readState (c .before .before .before .write-state .ensures .1 ∙ filled-state x) in (
+      (λ r.
+          read
+          ∙ value-back x (owned-typed x _ (y .ok .1 .1 .0)) (subst (λ (z : Stepped). Rules (z .supervisor)) (sym e) (step-rules _ _ _ (a .cfg) (a .x) (a .raw) r))
+          ∙ (λ i. Frame (e i .supervisor))),
+      read ∙ (λ i. readState (stateFrame (e i .supervisor))),
+    )
 
 pub stepped-state-again-spec : {M : Type 1} → statement M
 stepped-state-again-spec =

@@ -6,8 +6,9 @@ use native.Mathlib.Omega.{arith}
 use lib.ListN.{length, take, drop}
 use lib.Ieee.{Float, binary32, add, mul, lt}
 use borrow.Author.Needs.{needs}
+use Rattle.float32.specs.Binary32.{zeroF}
 use Rattle.geometry.specs.Ring.{fold, any, sides, turns}
-use Rattle.geometry.specs.Acceptance.{zeroF, half, cornerFault, flatTurn, cross2, areaTerm, polygonArea}
+use Rattle.geometry.specs.Acceptance.{half, cornerFault, flatTurn, cross2, areaTerm, polygonArea}
 use Rattle.geometry.specs.Round.{failed, roundOf}
 use Rattle.geometry.proofs.Laws.{corner-end, side-end, turn-end}
 use Rattle.geometry.proofs.Hold.{nowhere}

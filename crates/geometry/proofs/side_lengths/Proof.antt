@@ -6,8 +6,8 @@ use native.Mathlib.Omega.{arith}
 use lib.ListN.{length, take, replicate, length-map, List·getD-map}
 use lib.Seq.{length-take-le}
 use borrow.Author.Needs.{needs}
+use Rattle.float32.specs.Binary32.{zeroF}
 use Rattle.geometry.specs.Ring.{sides}
-use Rattle.geometry.specs.Acceptance.{zeroF}
 use Rattle.geometry.specs.Distance.{sideLength}
 use Rattle.geometry.proofs.Laws.{side-is, side-count}
 use Rattle.geometry.proofs.Hold.{nowhere, store, stored, take-capped}

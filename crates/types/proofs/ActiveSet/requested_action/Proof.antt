@@ -1,10 +1,11 @@
 -- `types::ActiveSet::requested_action` meets its contract: each call takes the next slot in. Assumes nothing.
-use mathlib.Core.Path.{_≡_, sym, ap, _∙_}
+use mathlib.Core.Path.{_≡_, sym, ap, subst, _∙_}
 use native.Mathlib.Nat.{le-of-eq}
 use native.Mathlib.Omega.{arith}
 use lib.ListN.{length, drop-of-length-le, length-map}
-use Rattle.types.specs.ActiveSet.{requestedAction, highest, nominal}
+use Rattle.types.specs.ActiveSet.{requestedAction, highest, nominal, Highest}
 use Rattle.types.proofs.Slots.{taken-in}
+use Rattle.types.proofs.Highest.{requested-is-highest}
 use borrow.Author.Needs.{needs}
 use Rattle.types.proofs.ActiveSet.requested_action.Statement.{statement}
 use Rattle.types.proofs.ActiveSet.requested_action.Tie as tie
@@ -150,6 +151,7 @@ returns c =
     let c₀ = c1 .before .before .before in
     let l = c₀ .args .self .reqs in
     let e : length l ≡ 19 = long c₀ in
+    let is : c .higher-request19 .result ≡ requestedAction l =
     sym
     (taken-in nominal (c1 .higher-request .result) l 0 _ (omega arith) (c1 .higher-request .ensures)
     ∙ taken-in (c1 .higher-request .result) (c2 .higher-request2 .result) l 1 _ (omega arith) (c2 .higher-request2 .ensures)
@@ -170,7 +172,8 @@ returns c =
     ∙ taken-in (c16 .higher-request16 .result) (c17 .higher-request17 .result) l 16 _ (omega arith) (c17 .higher-request17 .ensures)
     ∙ taken-in (c17 .higher-request17 .result) (c18 .higher-request18 .result) l 17 _ (omega arith) (c18 .higher-request18 .ensures)
     ∙ taken-in (c18 .higher-request18 .result) (c .higher-request19 .result) l 18 _ (omega arith) (c .higher-request19 .ensures)
-    ∙ ap (highest (c .higher-request19 .result)) (drop-of-length-le l (le-of-eq e)))
+    ∙ ap (highest (c .higher-request19 .result)) (drop-of-length-le l (le-of-eq e))) in
+    (is, subst (Highest l) (sym is) (requested-is-highest l))
 
 pub requested-action-spec : {M : Type 1} → statement M
 requested-action-spec =

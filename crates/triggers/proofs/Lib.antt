@@ -1,0 +1,2 @@
+-- What the definitions' constants are.
+pub mod Constants
