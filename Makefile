@@ -7,7 +7,7 @@ check:
 # What takes too long for the gate: the square root of all 2^32 patterns, and ten million steps beside the Rust.
 long:
 	tests/sqrt/run.sh all
-	tests/entries/run.sh 10000000 20261115
+	tests/entries/run.sh 10000000 20261117
 
 # The fixed lists of the Rust's answers, made anew (needs the Rust's source: oracle/run.sh says where).
 lists:
