@@ -9,9 +9,6 @@ use stream::Due;
 use stream::Session;
 use supervisor::Supervisor;
 
-// A Decision's bytes: the most that one frame is answered with.
-const ANSWER_BYTES: usize = 95;
-
 // The lesser of two numbers: it keeps a place within its block, where no contract says that it is.
 fn least(a: usize, b: usize) -> usize
     ensures { λ r. ⌜ (r ≤ a) × (r ≤ b) ⌝ }
@@ -19,53 +16,51 @@ fn least(a: usize, b: usize) -> usize
     if a < b { a } else { b }
 }
 
+// Writes the first bytes of the output block out; false where there are not so many, or where the write fails.
+fn write_out(out: usize, output: &[u8]) -> bool {
+    if out <= output.len() {
+        io::write_all(STDOUT_FILENO, &output[..out])
+    } else {
+        false
+    }
+}
+
 // ---- a kind 1, a kind 2
 
-// The session, how many bytes were taken, the refusal, 0 for none, and whether to go on.
+// The session, how many bytes were taken, and whether to go on.
 struct Setup {
     session: Session,
     at: usize,
-    refused: u16,
     more: bool,
 }
 
-// Answers the next whole frame, if there is one.
-fn setup_next(p: Setup, input: &[u8]) -> Setup {
+// Answers the next whole frame, if there is one, and writes the answer out.
+fn setup_next(p: Setup, input: &[u8], output: &mut [u8]) -> Setup {
     let session = p.session;
     let at = least(p.at, input.len());
-    let n = least(stream::whole_frame(&input[at..]), input.len() - at);
-    if n == 0 {
-        return Setup {
-            session: session,
-            at: at,
-            refused: 0,
-            more: false,
-        };
-    }
-    let end = at + n;
-    let a = stream::answer_setup(session, &input[at..end]);
+    let a = stream::set_up(session, &input[at..], output);
     let next = a.session;
     let due = next.due;
+    let taken = least(a.taken, input.len() - at);
+    write_out(a.put, output);
     Setup {
         session: next,
-        at: end,
-        refused: a.refused,
-        more: stream::in_setup(due),
+        at: at + taken,
+        more: stream::in_setup(due) & (0 < taken),
     }
 }
 
 // The two frames that set a flight up.
-fn set_up(session: Session, input: &[u8]) -> Setup {
+fn set_up(session: Session, input: &[u8], output: &mut [u8]) -> Setup {
     let due = session.due;
     let mut p = Setup {
         session: session,
         at: 0,
-        refused: 0,
         more: stream::in_setup(due),
     };
     let mut turns: usize = 2;
     while turns > 0 && p.more {
-        p = setup_next(p, input);
+        p = setup_next(p, input, output);
         turns -= 1;
     }
     p
@@ -73,68 +68,41 @@ fn set_up(session: Session, input: &[u8]) -> Setup {
 
 // ---- kind 3 frames
 
-// What is due, the supervisor, how many bytes were taken, how many are in the output block, more than it has where a write
-// failed, and whether to go on.
+// What is due, the supervisor, how many bytes were taken, whether every write went well, and whether to go on.
 struct Flying {
     due: Due,
     supervisor: Supervisor,
     at: usize,
-    out: usize,
+    ok: bool,
     more: bool,
 }
 
-// Writes the output block out where it has no room for one more answer, and answers how many bytes are in it then; more than
-// it has where the write failed.
-fn flush_full(out: usize, output: &[u8]) -> usize {
-    let n = least(out, output.len());
-    if ANSWER_BYTES <= output.len() - n {
-        return n;
-    }
-    if io::write_all(STDOUT_FILENO, &output[..n]) {
-        0
-    } else {
-        usize::MAX
-    }
-}
-
-// Answers the next whole frame, if there is one.
+// Answers as many whole frames as the output block has room for, and writes the answers out.
 fn fly_next(f: Flight, p: Flying, input: &[u8], output: &mut [u8]) -> Flying {
-    let due = p.due;
     let s = p.supervisor;
     let at = least(p.at, input.len());
-    let size = output.len();
-    let out = least(p.out, size);
-    let n = least(stream::whole_frame(&input[at..]), input.len() - at);
-    if n == 0 {
-        return Flying {
-            due: due,
-            supervisor: s,
-            at: at,
-            out: out,
-            more: false,
-        };
-    }
-    let end = at + n;
-    let a = stream::fly_frame(f, s, &input[at..end], &mut output[out..]);
-    let after = a.due;
-    let next = a.supervisor;
-    let filled = flush_full(out + least(a.put, size - out), output);
+    let a = stream::fly_frames(f, s, &input[at..], output);
+    let due = a.due;
+    let after = a.supervisor;
+    let taken = least(a.taken, input.len() - at);
+    let ok = write_out(a.put, output);
     Flying {
-        due: after,
-        supervisor: next,
-        at: end,
-        out: filled,
-        more: stream::in_flight(after) & (filled <= size),
+        due: due,
+        supervisor: after,
+        at: at + taken,
+        ok: ok,
+        more: ok & stream::in_flight(due) & (0 < taken),
     }
 }
 
-// Answers every whole frame of the input. A frame has at least two bytes, so as many turns as there are bytes are enough.
+// Answers every whole frame of the input, until none is taken. A frame has at least two bytes, so as many turns as there are
+// bytes are enough.
 fn fly(f: Flight, s: Supervisor, from: usize, input: &[u8], output: &mut [u8]) -> Flying {
     let mut p = Flying {
         due: Due::Telemetry,
         supervisor: s,
         at: from,
-        out: 0,
+        ok: true,
         more: true,
     };
     let mut turns = input.len();
@@ -146,23 +114,6 @@ fn fly(f: Flight, s: Supervisor, from: usize, input: &[u8], output: &mut [u8]) -
 }
 
 // ---- input and output
-
-// Writes the first bytes of the output block out; false where there are not so many, or where the write fails.
-fn write_out(out: usize, output: &[u8]) -> bool {
-    if out <= output.len() {
-        io::write_all(STDOUT_FILENO, &output[..out])
-    } else {
-        false
-    }
-}
-
-// Writes a refusal, if there is one.
-fn write_refusal(refused: u16, output: &mut [u8]) {
-    if refused != 0 {
-        let put = stream::put_refusal(refused, output);
-        write_out(put, output);
-    }
-}
 
 // Reads once, behind the `have` bytes that are in, and answers how many are in then: no more than `have` at the end of the
 // input, and where a read fails.
@@ -214,7 +165,6 @@ fn fly_on(session: Session, from: usize, full: usize, input: &mut [u8], output: 
     let p = fly(f, s, from, &input[..stop], output);
     let due = p.due;
     let after = p.supervisor;
-    let ok = write_out(p.out, output);
     let at = least(p.at, stop);
     move_front(input, at, stop);
     Kept {
@@ -224,7 +174,7 @@ fn fly_on(session: Session, from: usize, full: usize, input: &mut [u8], output: 
             supervisor: after,
         },
         have: stop - at,
-        more: ok & stream::in_flight(due),
+        more: p.ok & stream::in_flight(due),
     }
 }
 
@@ -235,15 +185,12 @@ fn read_once(k: Kept, input: &mut [u8], output: &mut [u8]) -> Kept {
     let due = session.due;
     let full = read_more(input, have);
     if full <= have {
-        write_refusal(stream::at_end(due, have), output);
+        let put = stream::end_input(due, have, output);
+        write_out(put, output);
         return ended(session);
     }
-    let p = set_up(session, &input[..full]);
+    let p = set_up(session, &input[..full], output);
     let next = p.session;
-    if p.refused != 0 {
-        write_refusal(p.refused, output);
-        return ended(next);
-    }
     let after = next.due;
     if stream::in_flight(after) {
         return fly_on(next, p.at, full, input, output);
@@ -253,7 +200,7 @@ fn read_once(k: Kept, input: &mut [u8], output: &mut [u8]) -> Kept {
     Kept {
         session: next,
         have: full - at,
-        more: true,
+        more: stream::in_setup(after),
     }
 }
 

@@ -1,1 +1,3 @@
+pub mod Enough
+pub mod Frames
 pub mod Room

@@ -25,3 +25,11 @@ put-none f out r e n = at (ltb (length out) (length f)) e
     at : (b : Bool) → r ≡ cond b 5 0 → 0 ≡ cond b 0 (length f)
     at true h = refl
     at false h = absurd (n h)
+
+pub put-nothing : (out : List ℕ) → 0 ≡ putCount [] out
+unfolding putCount
+put-nothing out = rw (le-ltb (length out) 0 zero-le)
+
+pub written-nothing : (out : List ℕ) → out ≡ frameWritten [] out
+unfolding frameWritten
+written-nothing out = rw (le-ltb (length out) 0 zero-le)

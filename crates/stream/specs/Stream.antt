@@ -1,11 +1,11 @@
 -- Document 01: "Program `decide` reads a kind 1, a kind 2, then kind 3 frames from standard input and writes one kind 4 frame a step. Where the
 -- input ends at a frame boundary, even before the first frame, it ends and writes no more; at the first refusal it writes one kind 255 frame
 -- and ends." Assumes nothing.
-use Prim.Native.Nat.{ℕ, _+_}
+use Prim.Native.Nat.{ℕ, zero, suc, _+_, _-_}
 use mathlib.Core.Bool.{Bool, true, false, _||_, cond}
-use mathlib.Core.List.{List}
+use mathlib.Core.List.{List, [], _++_}
 use lib.Dec.{eqb, ltb}
-use lib.ListN.{length}
+use lib.ListN.{length, take, drop}
 use Rattle.config.specs.declared.Config.{Config}
 use Rattle.supervisor.specs.declared.Supervisor.{Supervisor}
 use Rattle.supervisor.specs.Step.{freshSupervisor}
@@ -14,6 +14,7 @@ use Rattle.frame_config.specs.declared.ConfigRead.{ConfigRead}
 use Rattle.frame_config.specs.ConfigFrame.{readConfig}
 use Rattle.frame_fence.specs.FenceFrame.{readFence}
 use Rattle.frame_telemetry.specs.declared.TelemetryRead.{TelemetryRead}
+use Rattle.frame_telemetry.specs.TelemetryFrame.{readTelemetry}
 use Rattle.frame_decision.specs.DecisionFrame.{decisionFrame}
 use Rattle.frame_refusal.specs.RefusalFrame.{refusalFrame}
 use Rattle.flight.specs.declared.Flight.{Flight}
@@ -21,7 +22,9 @@ use Rattle.flight.specs.Flight.{refusedFlight, acceptFlight, stepFlight}
 use Rattle.stream.specs.declared.Due.{Due}
 use Rattle.stream.specs.declared.Session.{Session}
 use Rattle.stream.specs.declared.Answer.{Answer}
+use Rattle.stream.specs.declared.SetUp.{SetUp}
 use Rattle.stream.specs.declared.Flown.{Flown}
+use Rattle.stream.specs.declared.Flew.{Flew}
 
 -- the bytes of the whole frame at the start of the input, 2 and its length; 0 where it is not whole yet
 unfoldable pub wholeFrame : List ℕ → ℕ
@@ -33,76 +36,7 @@ wholeFrame s =
 abbrev pub session : Due → Flight → Supervisor → Session
 session due f s = record { due = due; flight = f; supervisor = s }
 
--- ---- "a kind 1, a kind 2"
-
--- the session goes on, and nothing is written
-abbrev pub silent : Session → Answer
-silent s = record { session = s; refused = 0 }
-
--- "at the first refusal it writes one kind 255 frame and ends"
-unfoldable pub refusal : ℕ → Answer
-refusal n = record { session = session Due.Nothing (refusedFlight n) freshSupervisor; refused = n }
-
--- a kind 1 is due
-unfoldable pub begin : Session
-begin = session Due.Config (refusedFlight 0) freshSupervisor
-
--- the configuration is read, and a kind 2 is due
-unfoldable pub withConfig : Config → Session
-withConfig cfg =
-    let f = refusedFlight 0 in
-    session Due.Fence (record { refused = 0; cfg = cfg; fence = f .fence; lengths = f .lengths }) freshSupervisor
-
-abbrev pub afterConfig : ConfigRead → Answer
-afterConfig (ConfigRead.Refused n) = refusal n
-afterConfig (ConfigRead.Frame cfg) = silent (withConfig cfg)
-
-unfoldable pub answerConfig : List ℕ → Answer
-answerConfig frame = afterConfig (readConfig frame)
-
--- both are accepted, and kind 3 frames are due
-abbrev pub flying : Flight → Session
-flying f = session Due.Telemetry f freshSupervisor
-
--- the fence frame, then the fence rules and the configuration rules
-unfoldable pub answerFence : Config → List ℕ → Answer
-answerFence cfg frame =
-    let read = readFence frame in
-    let f = acceptFlight cfg read in
-    cond (eqb (read .refused) 0)
-    (cond (eqb (f .refused) 0) (silent (flying f)) (refusal (f .refused)))
-    (refusal (read .refused))
-
-abbrev pub byDue : Due → Session → List ℕ → Answer
-byDue Due.Config s frame = answerConfig frame
-byDue Due.Fence s frame = answerFence (s .flight .cfg) frame
-byDue Due.Telemetry s frame = silent s
-byDue Due.Nothing s frame = silent s
-
--- what a whole frame of kind 1 or 2 is answered with, where one is due
-unfoldable pub answerSetup : Session → List ℕ → Answer
-answerSetup s frame = byDue (s .due) s frame
-
--- ---- "then kind 3 frames"
-
--- how many bytes are put into a slice: all, or none where there is no room
-unfoldable pub putCount : List ℕ → List ℕ → ℕ
-putCount bytes out = cond (ltb (length out) (length bytes)) 0 (length bytes)
-
--- "writes one kind 4 frame a step", and "one kind 255 frame" for a refusal
-abbrev pub bytesFor : TelemetryRead → Flight → Supervisor → List ℕ
-bytesFor (TelemetryRead.Refused n) f s = refusalFrame n
-bytesFor (TelemetryRead.Frame t) f s = decisionFrame (stepFlight f s t .decision)
-
--- "at the first refusal it … ends": nothing is due then; else a kind 3 again, with the supervisor of the step; and how many bytes were put into a slice
-abbrev pub flown : TelemetryRead → Flight → Supervisor → List ℕ → Flown
-flown (TelemetryRead.Refused n) f s out = record { due = Due.Nothing; supervisor = s; put = putCount (refusalFrame n) out }
-flown (TelemetryRead.Frame t) f s out =
-    let next = stepFlight f s t in
-    record { due = Due.Telemetry; supervisor = next .supervisor; put = putCount (decisionFrame (next .decision)) out }
-
--- ---- the end
-
+-- whether a kind 1 or 2 is due, and whether a kind 3 is
 abbrev pub inSetup : Due → Bool
 inSetup Due.Config = true
 inSetup Due.Fence = true
@@ -115,7 +49,161 @@ inFlight Due.Fence = false
 inFlight Due.Telemetry = true
 inFlight Due.Nothing = false
 
--- the refusal where the input ends after so many bytes that are no whole frame: none at a frame boundary or once the session is over, else the frame is
--- short, 1
-unfoldable pub atEnd : Due → ℕ → ℕ
-atEnd due rest = cond (eqb rest 0) 0 (cond (inSetup due || inFlight due) 1 0)
+-- how many bytes are put into a slice: all, or none where there is no room
+unfoldable pub putCount : List ℕ → List ℕ → ℕ
+putCount bytes out = cond (ltb (length out) (length bytes)) 0 (length bytes)
+
+-- ---- "a kind 1, a kind 2"
+
+-- the session after a frame, and the bytes that are written
+pub record Reply : Type 0 where
+  pub after : Session
+  pub bytes : List ℕ
+
+-- the session after it, and how many of the bytes are put into a slice
+abbrev pub answered : Reply → List ℕ → Answer
+answered a out = record { session = a .after; put = putCount (a .bytes) out }
+
+-- the session goes on, and nothing is written
+abbrev pub silent : Session → Reply
+silent s = record { after = s; bytes = [] }
+
+-- "at the first refusal it writes one kind 255 frame and ends"
+unfoldable pub refusal : ℕ → Reply
+refusal n = record { after = session Due.Nothing (refusedFlight n) freshSupervisor; bytes = refusalFrame n }
+
+-- a kind 1 is due
+unfoldable pub begin : Session
+begin = session Due.Config (refusedFlight 0) freshSupervisor
+
+-- the configuration is read, and a kind 2 is due
+unfoldable pub withConfig : Config → Session
+withConfig cfg =
+    let f = refusedFlight 0 in
+    session Due.Fence (record { refused = 0; cfg = cfg; fence = f .fence; lengths = f .lengths }) freshSupervisor
+
+abbrev pub afterConfig : ConfigRead → Reply
+afterConfig (ConfigRead.Refused n) = refusal n
+afterConfig (ConfigRead.Frame cfg) = silent (withConfig cfg)
+
+unfoldable pub answerConfig : List ℕ → Reply
+answerConfig frame = afterConfig (readConfig frame)
+
+-- both are accepted, and kind 3 frames are due
+abbrev pub flying : Flight → Session
+flying f = session Due.Telemetry f freshSupervisor
+
+-- the fence frame, then the fence rules and the configuration rules
+unfoldable pub answerFence : Config → List ℕ → Reply
+answerFence cfg frame =
+    let read = readFence frame in
+    let f = acceptFlight cfg read in
+    cond (eqb (read .refused) 0)
+    (cond (eqb (f .refused) 0) (silent (flying f)) (refusal (f .refused)))
+    (refusal (read .refused))
+
+abbrev pub byDue : Due → Session → List ℕ → Reply
+byDue Due.Config s frame = answerConfig frame
+byDue Due.Fence s frame = answerFence (s .flight .cfg) frame
+byDue Due.Telemetry s frame = silent s
+byDue Due.Nothing s frame = silent s
+
+-- what a whole frame of kind 1 or 2 is answered with, where one is due
+unfoldable pub answerSetup : Session → List ℕ → Reply
+answerSetup s frame = byDue (s .due) s frame
+
+-- the bytes of the frame at the front of the input that is answered: 0, for none, where neither a kind 1 nor a kind 2 is due, and where no whole frame is there
+unfoldable pub setupFrame : Due → List ℕ → ℕ
+setupFrame due input = cond (inSetup due) (wholeFrame input) 0
+
+-- what it is answered with; nothing happens where there is none
+unfoldable pub replySetup : Session → List ℕ → Reply
+replySetup s input =
+    let n = setupFrame (s .due) input in
+    cond (eqb n 0) (silent s) (answerSetup s (take n input))
+
+-- the session then, how many bytes of the input were taken, and how many are put into a slice
+abbrev pub setUp : Session → List ℕ → List ℕ → SetUp
+setUp s input out =
+    let a = replySetup s input in
+    record { session = a .after; taken = setupFrame (s .due) input; put = putCount (a .bytes) out }
+
+-- ---- "then kind 3 frames"
+
+-- "writes one kind 4 frame a step", and "one kind 255 frame" for a refusal
+abbrev pub bytesFor : TelemetryRead → Flight → Supervisor → List ℕ
+bytesFor (TelemetryRead.Refused n) f s = refusalFrame n
+bytesFor (TelemetryRead.Frame t) f s = decisionFrame (stepFlight f s t .decision)
+
+-- "at the first refusal it … ends": nothing is due then, else a kind 3 again
+abbrev pub dueAfter : TelemetryRead → Due
+dueAfter (TelemetryRead.Refused n) = Due.Nothing
+dueAfter (TelemetryRead.Frame t) = Due.Telemetry
+
+-- the supervisor of the step
+abbrev pub supervisorAfter : TelemetryRead → Flight → Supervisor → Supervisor
+supervisorAfter (TelemetryRead.Refused n) f s = s
+supervisorAfter (TelemetryRead.Frame t) f s = stepFlight f s t .supervisor
+
+-- what is due after a frame, the supervisor then, and how many of the bytes are put into a slice
+abbrev pub flown : TelemetryRead → Flight → Supervisor → List ℕ → Flown
+flown read f s out = record { due = dueAfter read; supervisor = supervisorAfter read f s; put = putCount (bytesFor read f s) out }
+
+-- ---- kind 3 frames, one after the other
+
+-- what is due, the supervisor, how many bytes of the input were taken, and the bytes written for them
+pub record Progress : Type 0 where
+  pub due : Due
+  pub supervisor : Supervisor
+  pub taken : ℕ
+  pub written : List ℕ
+
+-- before the first of them
+abbrev pub takeOff : Supervisor → Progress
+takeOff s = record { due = Due.Telemetry; supervisor = s; taken = 0; written = [] }
+
+-- the bytes of the frame at the front of the input that is answered: 0, for none, where no kind 3 is due, where there is no room for one more answer, of 95
+-- bytes at most, and where no whole frame is there
+unfoldable pub nextFrame : Due → List ℕ → ℕ → ℕ
+nextFrame due input room = cond (inFlight due) (cond (ltb room 95) 0 (wholeFrame input)) 0
+
+-- the same behind the frames that were taken, where so many bytes can be written in all
+unfoldable pub nextOf : List ℕ → ℕ → Progress → ℕ
+nextOf input size p = nextFrame (p .due) (drop (p .taken) input) (size - length (p .written))
+
+-- that frame, of n bytes, is answered: its bytes follow the ones before
+unfoldable pub answerNext : Flight → List ℕ → ℕ → Progress → Progress
+answerNext f input n p =
+    let read = readTelemetry (take n (drop (p .taken) input)) in
+    record {
+      due = dueAfter read;
+      supervisor = supervisorAfter read f (p .supervisor);
+      taken = p .taken + n;
+      written = p .written ++ bytesFor read f (p .supervisor);
+    }
+
+-- "then kind 3 frames": frames from the front of the input, as long as there is a next one, and no more than so many
+unfoldable pub answerFrames : ℕ → Flight → List ℕ → ℕ → Progress → Progress
+answerFrames zero f input size p = p
+answerFrames (suc turns) f input size p =
+    let n = nextOf input size p in
+    cond (eqb n 0) p (answerFrames turns f input size (answerNext f input n p))
+
+-- every frame that there is: a frame has at least two bytes, so as many turns as there are bytes are enough (proofs/Enough.antt)
+unfoldable pub flyFrames : Flight → Supervisor → List ℕ → ℕ → Progress
+flyFrames f s input size = answerFrames (length input) f input size (takeOff s)
+
+-- what is due then, the supervisor, how many bytes were taken, and how many were written
+abbrev pub flew : Progress → Flew
+flew p = record { due = p .due; supervisor = p .supervisor; taken = p .taken; put = length (p .written) }
+
+-- how far it is, where the bytes written so far are the first of the output
+abbrev pub progress : Flew → List ℕ → Progress
+progress p out = record { due = p .due; supervisor = p .supervisor; taken = p .taken; written = take (p .put) out }
+
+-- ---- the end
+
+-- "Where the input ends at a frame boundary, even before the first frame, it ends and writes no more"; after bytes that are no whole frame, where one is
+-- due, the frame is short, 1
+unfoldable pub endBytes : Due → ℕ → List ℕ
+endBytes due rest = cond (eqb rest 0) [] (cond (inSetup due || inFlight due) (refusalFrame 1) [])

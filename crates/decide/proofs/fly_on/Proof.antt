@@ -1,4 +1,4 @@
--- `decide::fly_on` is safe and ends: what is answered is within the input block.
+-- `decide::fly_on` is safe and ends.
 use native.Mathlib.Omega.{arith}
 use lib.ListN.{length-take}
 use borrow.Author.Needs.{needs}
@@ -9,7 +9,7 @@ use Rattle.decide.proofs.fly_on.Lts as lts
 use Rattle.decide.proofs.fly.Reads as fly-reads
 use Rattle.decide.proofs.least.Reads as least-reads
 use Rattle.decide.proofs.move_front.Reads as move-front-reads
-use Rattle.decide.proofs.write_out.Reads as write-out-reads
+use Rattle.stream.proofs.in_flight.Reads as in-flight-reads
 
 least-requires : tie.Need-least-requires
 least-requires c κs = search needs
@@ -23,17 +23,14 @@ slice-aggregate-fly c = simp length-take (omega (arith, c .before .least .ensure
 fly-requires : tie.Need-fly-requires
 fly-requires c κs = search needs
 
-write-out-requires : tie.Need-write-out-requires
-write-out-requires c κs = search needs
-
 least-requires-2 : tie.Need-least-requires-2
 least-requires-2 c κs = search needs
 
 move-front-requires : tie.Need-move-front-requires
 move-front-requires c κs = search needs
 
-sub-t14 : tie.Need-sub-t14
-sub-t14 c = search needs
+sub-t13 : tie.Need-sub-t13
+sub-t13 c = search needs
 
 in-flight-requires : tie.Need-in-flight-requires
 in-flight-requires c κs = search needs
@@ -55,10 +52,9 @@ fly-on-spec =
     slice-reshare-prefix-fly
     slice-aggregate-fly
     fly-requires
-    write-out-requires
     least-requires-2
     move-front-requires
-    sub-t14
+    sub-t13
     in-flight-requires
     same-length
     same-length-2

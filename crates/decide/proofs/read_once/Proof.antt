@@ -13,18 +13,19 @@ use Rattle.decide.proofs.least.Reads as least-reads
 use Rattle.decide.proofs.move_front.Reads as move-front-reads
 use Rattle.decide.proofs.read_more.Reads as read-more-reads
 use Rattle.decide.proofs.set_up.Reads as set-up-reads
-use Rattle.decide.proofs.write_refusal.Reads as write-refusal-reads
-use Rattle.stream.proofs.at_end.Reads as at-end-reads
+use Rattle.decide.proofs.write_out.Reads as write-out-reads
+use Rattle.stream.proofs.end_input.Reads as end-input-reads
 use Rattle.stream.proofs.in_flight.Reads as in-flight-reads
+use Rattle.stream.proofs.in_setup.Reads as in-setup-reads
 
 read-more-requires : tie.Need-read-more-requires
 read-more-requires c κs = search needs
 
-at-end-requires : tie.Need-at-end-requires
-at-end-requires c κs = search needs
+end-input-requires : tie.Need-end-input-requires
+end-input-requires c κs = search needs
 
-write-refusal-requires : tie.Need-write-refusal-requires
-write-refusal-requires c κs = search needs
+write-out-requires : tie.Need-write-out-requires
+write-out-requires c κs = search needs
 
 ended-requires : tie.Need-ended-requires
 ended-requires c κs = search needs
@@ -47,14 +48,14 @@ slice-aggregate-set-up c = simp length-take (omega (arith, c .before .before .be
 set-up-requires : tie.Need-set-up-requires
 set-up-requires c κs = search needs
 
-write-refusal-requires-2 : tie.Need-write-refusal-requires-2
-write-refusal-requires-2 c κs = search needs
+in-flight-requires : tie.Need-in-flight-requires
+in-flight-requires c κs = search needs
 
-ended-requires-2 : tie.Need-ended-requires-2
-ended-requires-2 c κs = search needs
+fly-on-requires : tie.Need-fly-on-requires
+fly-on-requires c κs = search needs
 
 same-length-3 : tie.Need-same-length-3
-same-length-3 c = c .before .before .before .before .before .before .before .before .before .before .before .before .before .read-more .kept .0
+same-length-3 c = c .before .before .before .before .fly-on .kept .1 .1 .1 .0 ∙ c .before .before .before .before .before .before .before .before .before .before .before .before .before .before .before .before .before .before .read-more .kept .0
 
 same-length-4 : tie.Need-same-length-4
 same-length-4 c = search needs
@@ -62,14 +63,20 @@ same-length-4 c = search needs
 returns-2 : tie.Need-returns-2
 returns-2 c = search needs
 
-in-flight-requires : tie.Need-in-flight-requires
-in-flight-requires c κs = search needs
+least-requires : tie.Need-least-requires
+least-requires c κs = search needs
 
-fly-on-requires : tie.Need-fly-on-requires
-fly-on-requires c κs = search needs
+move-front-requires : tie.Need-move-front-requires
+move-front-requires c κs = search needs
+
+sub-t33 : tie.Need-sub-t33
+sub-t33 c = search needs
+
+in-setup-requires : tie.Need-in-setup-requires
+in-setup-requires c κs = search needs
 
 same-length-5 : tie.Need-same-length-5
-same-length-5 c = c .before .before .before .before .fly-on .kept .1 .1 .1 .0 ∙ c .before .before .before .before .before .before .before .before .before .before .before .before .before .before .before .before .before .read-more .kept .0
+same-length-5 c = search needs
 
 same-length-6 : tie.Need-same-length-6
 same-length-6 c = search needs
@@ -77,28 +84,13 @@ same-length-6 c = search needs
 returns-3 : tie.Need-returns-3
 returns-3 c = search needs
 
-least-requires : tie.Need-least-requires
-least-requires c κs = search needs
-
-move-front-requires : tie.Need-move-front-requires
-move-front-requires c κs = search needs
-
-sub-t32 : tie.Need-sub-t32
-sub-t32 c = search needs
-
-same-length-7 : tie.Need-same-length-7
-same-length-7 c = search needs
-
-returns-4 : tie.Need-returns-4
-returns-4 c = search needs
-
 pub read-once-spec : {M : Type 1} → statement M
 read-once-spec =
     tie.close
     (tie.spec
     read-more-requires
-    at-end-requires
-    write-refusal-requires
+    end-input-requires
+    write-out-requires
     ended-requires
     same-length
     same-length-2
@@ -106,18 +98,15 @@ read-once-spec =
     slice-reshare-prefix-set-up
     slice-aggregate-set-up
     set-up-requires
-    write-refusal-requires-2
-    ended-requires-2
+    in-flight-requires
+    fly-on-requires
     same-length-3
     same-length-4
     returns-2
-    in-flight-requires
-    fly-on-requires
-    same-length-5
-    same-length-6
-    returns-3
     least-requires
     move-front-requires
-    sub-t32
-    same-length-7
-    returns-4)
+    sub-t33
+    in-setup-requires
+    same-length-5
+    same-length-6
+    returns-3)

@@ -1,5 +1,7 @@
-use Rattle.stream.specs.Stream.{answerConfig}
+-- `stream::answer_config` meets its contract. Assumes nothing.
 use borrow.Author.Needs.{needs}
+use Rattle.stream.specs.Stream.{answerConfig}
+use Rattle.stream.proofs.Room.{written-nothing}
 use Rattle.stream.proofs.answer_config.Statement.{statement}
 use Rattle.stream.proofs.answer_config.Tie as tie
 use Rattle.stream.proofs.answer_config.Reads as reads
@@ -27,13 +29,16 @@ with-config-requires c κs = search needs
 silent-requires : tie.Need-silent-requires
 silent-requires c κs = search needs
 
+same-length : tie.Need-same-length
+same-length c = search needs
+
 returns : tie.Need-returns
 unfolding answerConfig
-returns c = rw (← c .before .before .before .before .read-config .ensures, c .before .before .n .given .1, ← c .refusal .ensures)
+returns c = rw (← c .before .before .before .before .before .before .before .read-config .ensures, c .before .before .before .before .before .n .given .1) (c .before .before .refusal .ensures)
 
 returns-2 : tie.Need-returns-2
 unfolding answerConfig
-returns-2 c = rw (← c .before .before .before .before .before .read-config .ensures, c .before .before .before .cfg .given .1, ← c .before .with-config .ensures, ← c .silent .ensures)
+returns-2 c = rw (← c .before .before .before .before .before .read-config .ensures, c .before .before .before .cfg .given .1, ← c .before .with-config .ensures) (c .silent .ensures _, written-nothing _)
 
 pub answer-config-spec : {M : Type 1} → statement M
 answer-config-spec =
@@ -45,5 +50,6 @@ answer-config-spec =
     enum-known-cfg
     with-config-requires
     silent-requires
+    same-length
     returns
     returns-2)

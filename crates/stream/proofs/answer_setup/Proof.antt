@@ -1,5 +1,8 @@
-use Rattle.stream.specs.Stream.{answerSetup}
+-- `stream::answer_setup` meets its contract. Assumes nothing.
+use mathlib.Core.Path.{refl}
 use borrow.Author.Needs.{needs}
+use Rattle.stream.specs.Stream.{answerSetup}
+use Rattle.stream.proofs.Room.{written-nothing}
 use Rattle.stream.proofs.answer_setup.Statement.{statement}
 use Rattle.stream.proofs.answer_setup.Tie as tie
 use Rattle.stream.proofs.answer_setup.Reads as reads
@@ -32,21 +35,27 @@ enum-told-4 c = search needs
 silent-requires-2 : tie.Need-silent-requires-2
 silent-requires-2 c κs = search needs
 
+same-length : tie.Need-same-length
+same-length c = search needs
+
 returns : tie.Need-returns
 unfolding answerSetup
-returns c = rw (c .before .enum-told .given .1, ← c .answer-config .ensures)
+returns c = rw (c .before .before .before .before .enum-told .given .1) (c .before .before .answer-config .ensures)
+
+same-length-2 : tie.Need-same-length-2
+same-length-2 c = search needs
 
 returns-2 : tie.Need-returns-2
 unfolding answerSetup
-returns-2 c = rw (c .before .enum-told2 .given .1, ← c .answer-fence .ensures)
+returns-2 c = rw (c .before .before .before .before .enum-told2 .given .1) (c .before .before .answer-fence .ensures)
 
 returns-3 : tie.Need-returns-3
 unfolding answerSetup
-returns-3 c = rw (c .silent .ensures, c .before .enum-told3 .given .1)
+returns-3 c = rw (c .silent .ensures (c .before .before .before .before .before .before .before .args .out .now), c .before .enum-told3 .given .1) (refl, written-nothing _)
 
 returns-4 : tie.Need-returns-4
 unfolding answerSetup
-returns-4 c = rw (c .silent2 .ensures, c .before .enum-told4 .given .1)
+returns-4 c = rw (c .silent2 .ensures (c .before .before .before .before .before .before .before .args .out .now), c .before .enum-told4 .given .1) (refl, written-nothing _)
 
 pub answer-setup-spec : {M : Type 1} → statement M
 answer-setup-spec =
@@ -60,7 +69,9 @@ answer-setup-spec =
     silent-requires
     enum-told-4
     silent-requires-2
+    same-length
     returns
+    same-length-2
     returns-2
     returns-3
     returns-4)

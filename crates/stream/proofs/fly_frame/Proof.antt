@@ -1,5 +1,7 @@
+-- `stream::fly_frame` meets its contract. Assumes nothing.
 use mathlib.Core.Path.{refl}
 use borrow.Author.Needs.{needs}
+use Rattle.stream.specs.declared.Due.{Due}
 use Rattle.stream.proofs.fly_frame.Statement.{statement}
 use Rattle.stream.proofs.fly_frame.Tie as tie
 use Rattle.stream.proofs.fly_frame.Reads as reads
@@ -37,7 +39,7 @@ same-length-2 : tie.Need-same-length-2
 same-length-2 c = search needs
 
 returns-2 : tie.Need-returns-2
-returns-2 c = rw (← c .before .before .before .before .before .before .before .before .before .before .read-telemetry .ensures, c .before .before .before .before .before .before .before .before .t .given .1, ← c .before .before .before .before .before .before .step-flight .ensures, ← c .before .before .put-decision .ensures .0) (refl, c .before .before .put-decision .ensures .1)
+returns-2 c = rw (← c .before .before .before .before .before .before .before .before .before .before .read-telemetry .ensures, c .before .before .before .before .before .before .before .before .t .given .1, ← c .before .before .before .before .before .before .step-flight .ensures, ← c .before .before .put-decision .ensures .0) (λ i. record { due = Due.Telemetry; supervisor = c .before .before .before .before .before .before .step-flight .ensures i .supervisor; put = c .before .before .put-decision .result }, c .before .before .put-decision .ensures .1)
 
 pub fly-frame-spec : {M : Type 1} → statement M
 fly-frame-spec =

@@ -1,4 +1,5 @@
 -- `stream::whole_frame` meets its contract. Assumes nothing.
+use Prim.Native.Nat.{_+_}
 use native.Mathlib.Omega.{arith}
 use Rattle.stream.specs.Stream.{wholeFrame}
 use borrow.Author.Tests.{le-ltb, lt-ltb}
@@ -21,11 +22,11 @@ add-bytes c = search needs
 
 returns-2 : tie.Need-returns-2
 unfolding wholeFrame
-returns-2 c = (rw (le-ltb _ _ (c .before .before .before .if1 .left), ← c .before .before .u16-at .ensures, ← c .before .widened .ensures, lt-ltb _ _ (c .if2 .taken)), omega arith)
+returns-2 c = (rw (le-ltb _ _ (c .before .before .before .if1 .left), ← c .before .before .u16-at .ensures, ← c .before .widened .ensures, lt-ltb _ (2 + c .before .widened .result) (c .if2 .taken)), omega arith)
 
 returns-3 : tie.Need-returns-3
 unfolding wholeFrame
-returns-3 c = (rw (le-ltb _ _ (c .before .before .before .if1 .left), ← c .before .before .u16-at .ensures, ← c .before .widened .ensures, le-ltb _ _ (c .if2 .left)), omega arith)
+returns-3 c = (rw (le-ltb _ _ (c .before .before .before .if1 .left), ← c .before .before .u16-at .ensures, ← c .before .widened .ensures, le-ltb _ (2 + c .before .widened .result) (c .if2 .left)), omega arith)
 
 pub whole-frame-spec : {M : Type 1} → statement M
 whole-frame-spec =

@@ -1,0 +1,154 @@
+-- The laws of the frames of kind 3 that are answered one after the other. Assumes nothing.
+use Prim.Native.Nat.{ℕ, zero, suc, _+_, _-_, _≤_, _<_}
+use native.Mathlib.Omega.{arith}
+use mathlib.Core.Bool.{Bool, true, false, cond}
+use mathlib.Core.List.{List, _++_, append-assoc, append-nil}
+use mathlib.Core.Path.{_≡_, refl, sym, _∙_, ap}
+use lib.Dec.{eqb, ltb}
+use lib.ListN.{length, take, drop, length-drop, length-append, take-append-drop}
+use lib.Seq.{length-take-le, take-all, take-at, drop-at, drop-drop, drop-length}
+use borrow.Author.Tests.{ltb-false, le-ltb, eq-eqb, ne-eqb}
+use borrow.Rule.Slice.PartMut.{midOf, putMid}
+use Rattle.supervisor.specs.declared.Supervisor.{Supervisor}
+use Rattle.wire.specs.Frame.{frameWritten}
+use Rattle.frame_telemetry.specs.declared.TelemetryRead.{TelemetryRead}
+use Rattle.frame_telemetry.specs.TelemetryFrame.{readTelemetry}
+use Rattle.frame_decision.proofs.Size.{size as decision-size}
+use Rattle.frame_refusal.proofs.Size.{size as refusal-size}
+use Rattle.flight.specs.declared.Flight.{Flight}
+use Rattle.flight.specs.Flight.{stepFlight}
+use Rattle.stream.specs.declared.Due.{Due}
+use Rattle.stream.specs.declared.Flew.{Flew}
+use Rattle.stream.specs.declared.Flown.{Flown}
+use Rattle.stream.specs.Stream.{Progress, inFlight, wholeFrame, nextFrame, nextOf, answerNext, answerFrames, progress, flew, putCount, bytesFor, flown}
+
+-- the part of a slice from a place on, as the borrow checker gives it
+rest : (s : List ℕ) (i : ℕ) → take (length s - i) (drop i s) ≡ drop i s
+rest s i = take-all (length s - i) (drop i s) (simp length-drop (omega arith))
+
+-- where a frame is answered next, there is room for its answer
+room-for : (due : Due) (input : List ℕ) (room n : ℕ) → n ≡ nextFrame due input room → 0 < n → 95 ≤ room
+unfolding nextFrame
+room-for due input room n e h = by (inFlight due) e
+  where
+    within : (b : Bool) → ltb room 95 ≡ b → n ≡ cond b 0 (wholeFrame input) → 95 ≤ room
+    within true t q = absurd (omega arith)
+    within false t q = ltb-false _ _ t
+
+    by : (b : Bool) → n ≡ cond b (cond (ltb room 95) 0 (wholeFrame input)) 0 → 95 ≤ room
+    by true q = within (ltb room 95) refl q
+    by false q = absurd (omega arith)
+
+-- the next frame, from what the code knows
+pub next-of : (p : Flew) (input out : List ℕ) (n : ℕ)
+    → p .put ≤ length out
+    → n ≡ nextFrame (p .due) (take (length input - p .taken) (drop (p .taken) input)) (length out - p .put)
+    → n ≡ nextOf input (length out) (progress p out)
+unfolding nextOf
+next-of p input out n h e = rw (length-take-le (p .put) out h, ← rest input (p .taken)) e
+
+-- where no frame is answered next, nothing more happens
+pub halts : (turns : ℕ) (f : Flight) (input : List ℕ) (size : ℕ) (p : Progress) (n : ℕ) → n ≡ nextOf input size p → n ≤ 0 → answerFrames turns f input size p ≡ p
+unfolding answerFrames
+halts zero f input size p n e h = refl
+halts (suc turns) f input size p n e h = rw (eq-eqb (nextOf input size p) 0 (omega arith))
+
+-- where one is, it is answered first
+goes : (turns : ℕ) (f : Flight) (input : List ℕ) (size : ℕ) (p : Progress) (n : ℕ)
+    → n ≡ nextOf input size p → 0 < n → 0 < turns
+    → answerFrames turns f input size p ≡ answerFrames (turns - 1) f input size (answerNext f input n p)
+unfolding answerFrames
+goes zero f input size p n e h t = absurd (omega arith)
+goes (suc turns) f input size p n e h t =
+    let less : suc turns - 1 ≡ turns = omega arith in
+    rw (less, ← e, ne-eqb n 0 (λ z. omega arith))
+
+-- after the last turn nothing more happens
+pub spent : (turns : ℕ) (f : Flight) (input : List ℕ) (size : ℕ) (p : Progress) → turns ≤ 0 → answerFrames turns f input size p ≡ p
+unfolding answerFrames
+spent zero f input size p h = refl
+spent (suc turns) f input size p h = absurd (omega arith)
+
+-- where a frame is answered next, the output has room for its answer
+pub room-next : (p : Flew) (input out : List ℕ) (n : ℕ) → p .put ≤ length out → n ≡ nextOf input (length out) (progress p out) → 0 < n → p .put + 95 ≤ length out
+unfolding nextOf
+room-next p input out n h e z =
+    let room : 95 ≤ length out - length (take (p .put) out) = room-for (p .due) (drop (p .taken) input) (length out - length (take (p .put) out)) n e z in
+    omega (arith, rw (length-take-le (p .put) out h) at room)
+
+-- an answer has at most 95 bytes
+answer-size : (read : TelemetryRead) (f : Flight) (s : Supervisor) → length (bytesFor read f s) ≤ 95
+answer-size (TelemetryRead.Refused n) f s = omega (arith, refusal-size n)
+answer-size (TelemetryRead.Frame t) f s = omega (arith, decision-size (stepFlight f s t .decision))
+
+-- bytes that are put into the part of a slice from a place on, where there is room
+module _ (out bytes : List ℕ) (put : ℕ) (fits : put + length bytes ≤ length out) where
+  room-in-part : length bytes ≤ length (drop put out)
+  room-in-part = simp length-drop (omega arith)
+
+  counted : putCount bytes (midOf put (length out - put) out) ≡ length bytes
+  unfolding putCount
+  counted = rw (rest out put, le-ltb (length (drop put out)) (length bytes) room-in-part)
+
+  into : putMid put (length out - put) out (frameWritten bytes (midOf put (length out - put) out)) ≡ take put out ++ bytes ++ drop (put + length bytes) out
+  unfolding frameWritten
+  into = rw (rest out put, le-ltb (length (drop put out)) (length bytes) room-in-part, ← length-drop put out, drop-length (drop put out), append-nil, drop-drop, append-assoc)
+
+  size : length (take put out ++ bytes) ≡ put + length bytes
+  size = simp length-append (rw (length-take-le put out (omega arith)))
+
+  taken-then : take (put + length bytes) (putMid put (length out - put) out (frameWritten bytes (midOf put (length out - put) out))) ≡ take put out ++ bytes
+  taken-then = rw (into, take-at (take put out ++ bytes) (drop (put + length bytes) out) (put + length bytes) size)
+
+  left-then : drop (put + length bytes) (putMid put (length out - put) out (frameWritten bytes (midOf put (length out - put) out))) ≡ drop (put + length bytes) out
+  left-then = rw (into, drop-at (take put out ++ bytes) (drop (put + length bytes) out) (put + length bytes) size)
+
+-- what the code has at the end, from how far it is
+pub ends : (p : Flew) (out out₀ : List ℕ) (q : Progress)
+    → progress p out ≡ q → p .put ≤ length out → length out ≡ length out₀ → drop (p .put) out ≡ drop (p .put) out₀
+    → (p ≡ flew q) × (out ≡ frameWritten (q .written) out₀)
+unfolding frameWritten
+ends p out out₀ q e h l d =
+    rw (← e, length-take-le (p .put) out h, le-ltb (length out₀) (p .put) (omega arith), ← d, take-append-drop) (refl, refl)
+
+-- a number of bytes of the rest of the input, behind a place
+pub in-rest : (input : List ℕ) (i n : ℕ) → i ≤ length input → n ≤ length (take (length input - i) (drop i input)) → i + n ≤ length input
+in-rest input i n h k = omega (arith, rw (rest input i, length-drop i input) at k)
+
+-- the frame of n bytes behind those taken, as the code reads it
+abbrev readOf : Flew → ℕ → List ℕ → TelemetryRead
+readOf p n input = readTelemetry (take (p .taken + n - p .taken) (drop (p .taken) input))
+
+-- one frame answered: what the code has then, from what it had
+module _ (f : Flight) (p : Flew) (n : ℕ) (input out : List ℕ) (a : Flown) (part : List ℕ) (room : p .put + 95 ≤ length out)
+    (e : a ≡ flown (readOf p n input) f (p .supervisor) (midOf (p .put) (length out - p .put) out))
+    (q : part ≡ frameWritten (bytesFor (readOf p n input) f (p .supervisor)) (midOf (p .put) (length out - p .put) out)) where
+  fits : p .put + length (bytesFor (readOf p n input) f (p .supervisor)) ≤ length out
+  fits = omega (arith, answer-size (readOf p n input) f (p .supervisor))
+
+  put-all : a .put ≡ length (bytesFor (readOf p n input) f (p .supervisor))
+  put-all = ap (λ (x : Flown). x .put) e ∙ counted out (bytesFor (readOf p n input) f (p .supervisor)) (p .put) fits
+
+  pub step-put : p .put + a .put ≤ length out
+  step-put = rw put-all fits
+
+  pub step-left : drop (p .put + a .put) (putMid (p .put) (length out - p .put) out part) ≡ drop (p .put + a .put) out
+  step-left = rw (put-all, q) (left-then out (bytesFor (readOf p n input) f (p .supervisor)) (p .put) fits)
+
+  pub step-progress : progress (record { due = a .due; supervisor = a .supervisor; taken = p .taken + n; put = p .put + a .put }) (putMid (p .put) (length out - p .put) out part) ≡ answerNext f input n (progress p out)
+  unfolding answerNext
+  step-progress =
+      let same : p .taken + n - p .taken ≡ n = omega arith in
+      rw (put-all, q, taken-then out (bytesFor (readOf p n input) f (p .supervisor)) (p .put) fits, e, same)
+
+-- what two lists share from a place on, they share from a later place on
+pub drop-later : (i j : ℕ) (s t : List ℕ) → i ≤ j → drop i s ≡ drop i t → drop j s ≡ drop j t
+drop-later i j s t h e =
+    let at : i + (j - i) ≡ j = omega arith in
+    rw (← at, ← drop-drop (j - i) i s, ← drop-drop (j - i) i t, e)
+
+-- one turn more
+pub again : (turns : ℕ) (f : Flight) (input : List ℕ) (size : ℕ) (p q : Progress) (n : ℕ) (all : Progress)
+    → q ≡ answerNext f input n p → n ≡ nextOf input size p → 0 < n → 0 < turns
+    → answerFrames turns f input size p ≡ all → answerFrames (turns - 1) f input size q ≡ all
+again turns f input size p q n all a e h t d = rw a (sym (goes turns f input size p n e h t) ∙ d)
