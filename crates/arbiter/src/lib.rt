@@ -66,7 +66,7 @@ pub fn output_with_latches(
     requested
 }
 
-// What is shown before, again.
+// What the step before showed.
 fn previous(state: ArbiterState) -> Request
     ensures { λ r. ⌜ r ≡ previous state ⌝ }
 {

@@ -224,9 +224,9 @@ fn vec3_in(s: &[u8], at: usize) -> Vec3
     ensures { λ r. ⌜ r ≡ vec3At (now (s .entry)) at ⌝ }
 {
     Vec3 {
-        n: wire::f32_of(word(s, at)),
-        e: wire::f32_of(word(s, at + 4)),
-        d: wire::f32_of(word(s, at + 8)),
+        n: float32::from_bits(word(s, at)),
+        e: float32::from_bits(word(s, at + 4)),
+        d: float32::from_bits(word(s, at + 8)),
     }
 }
 

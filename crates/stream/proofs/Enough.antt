@@ -9,8 +9,9 @@ use lib.ListN.{length, drop, length-drop}
 use borrow.Author.Tests.{eqb-true, eqb-false, lt-ltb}
 use Rattle.flight.specs.declared.Flight.{Flight}
 use Rattle.supervisor.specs.declared.Supervisor.{Supervisor}
+use Rattle.wire.specs.Frame.{wholeFrame}
 use Rattle.stream.specs.declared.Due.{Due}
-use Rattle.stream.specs.Stream.{Progress, inFlight, wholeFrame, nextFrame, nextOf, answerNext, answerFrames, flyFrames, takeOff}
+use Rattle.stream.specs.Stream.{Progress, inFlight, nextFrame, nextOf, answerNext, answerFrames, flyFrames, takeOff}
 
 -- of fewer than two bytes none is a frame
 no-frame : (due : Due) (input : List ℕ) (room : ℕ) → length input ≤ 0 → nextFrame due input room ≡ 0

@@ -10,7 +10,7 @@ use lib.Seq.{length-take-le, take-all, take-at, drop-at, drop-drop, drop-length}
 use borrow.Author.Tests.{ltb-false, le-ltb, eq-eqb, ne-eqb}
 use borrow.Rule.Slice.PartMut.{midOf, putMid}
 use Rattle.supervisor.specs.declared.Supervisor.{Supervisor}
-use Rattle.wire.specs.Frame.{frameWritten}
+use Rattle.wire.specs.Frame.{wholeFrame, frameWritten}
 use Rattle.frame_telemetry.specs.declared.TelemetryRead.{TelemetryRead}
 use Rattle.frame_telemetry.specs.TelemetryFrame.{readTelemetry}
 use Rattle.frame_decision.proofs.Size.{size as decision-size}
@@ -20,7 +20,7 @@ use Rattle.flight.specs.Flight.{stepFlight}
 use Rattle.stream.specs.declared.Due.{Due}
 use Rattle.stream.specs.declared.Flew.{Flew}
 use Rattle.stream.specs.declared.Flown.{Flown}
-use Rattle.stream.specs.Stream.{Progress, inFlight, wholeFrame, nextFrame, nextOf, answerNext, answerFrames, progress, flew, putCount, bytesFor, flown}
+use Rattle.stream.specs.Stream.{Progress, inFlight, nextFrame, nextOf, answerNext, answerFrames, progress, flew, putCount, bytesFor, flown}
 
 -- the part of a slice from a place on, as the borrow checker gives it
 rest : (s : List ℕ) (i : ℕ) → take (length s - i) (drop i s) ≡ drop i s

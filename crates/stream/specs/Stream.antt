@@ -9,7 +9,7 @@ use lib.ListN.{length, take, drop}
 use Rattle.config.specs.declared.Config.{Config}
 use Rattle.supervisor.specs.declared.Supervisor.{Supervisor}
 use Rattle.supervisor.specs.Step.{freshSupervisor}
-use Rattle.wire.specs.Fields.{u16At}
+use Rattle.wire.specs.Frame.{wholeFrame}
 use Rattle.frame_config.specs.declared.ConfigRead.{ConfigRead}
 use Rattle.frame_config.specs.ConfigFrame.{readConfig}
 use Rattle.frame_fence.specs.FenceFrame.{readFence}
@@ -25,13 +25,6 @@ use Rattle.stream.specs.declared.Answer.{Answer}
 use Rattle.stream.specs.declared.SetUp.{SetUp}
 use Rattle.stream.specs.declared.Flown.{Flown}
 use Rattle.stream.specs.declared.Flew.{Flew}
-
--- the bytes of the whole frame at the start of the input, 2 and its length; 0 where it is not whole yet
-unfoldable pub wholeFrame : List ℕ → ℕ
-wholeFrame s =
-    cond (ltb (length s) 2) 0
-    (cond (ltb (length s) (2 + u16At s 0)) 0
-    (2 + u16At s 0))
 
 abbrev pub session : Due → Flight → Supervisor → Session
 session due f s = record { due = due; flight = f; supervisor = s }

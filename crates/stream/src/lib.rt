@@ -7,7 +7,7 @@ ghost use Rattle.wire.specs.Frame.{frameWritten};
 ghost use Rattle.frame_decision.specs.DecisionFrame.{decisionFrame};
 ghost use Rattle.frame_refusal.specs.RefusalFrame.{refusalFrame};
 ghost use Rattle.frame_telemetry.specs.TelemetryFrame.{readTelemetry};
-ghost use Rattle.stream.specs.Stream.{wholeFrame, begin, silent, refusal, flying, withConfig, answerConfig, answerFence, answerSetup, answered, setupFrame, replySetup, setUp, putCount, bytesFor, flown, nextFrame, nextOf, answerNext, flyFrames, flew, progress, inSetup, inFlight, endBytes};
+ghost use Rattle.stream.specs.Stream.{begin, silent, refusal, flying, withConfig, answerConfig, answerFence, answerSetup, answered, setupFrame, replySetup, setUp, putCount, bytesFor, flown, nextFrame, nextOf, answerNext, flyFrames, flew, progress, inSetup, inFlight, endBytes};
 use config::Config;
 use flight::Flight;
 use frame_config::ConfigRead;
@@ -55,25 +55,6 @@ pub struct Flew {
     pub supervisor: Supervisor,
     pub taken: usize,
     pub put: usize,
-}
-
-// The bytes of the whole frame at the start of s; 0 where there is none yet.
-fn whole_frame(s: &[u8]) -> usize
-    ensures { λ r. ⌜ r ≡ wholeFrame (now (s .entry)) ⌝ }
-    ensures { λ r. ⌜ r ≤ length (now (s .entry)) ⌝ }
-{
-    if s.len() < 2 {
-        return 0;
-    }
-    let n = wire::u16_at(s, 0);
-    let bytes = 2 + widened(n);
-    if s.len() < bytes { 0 } else { bytes }
-}
-
-fn widened(n: u16) -> usize
-    ensures { λ r. ⌜ r ≡ n ⌝ }
-{
-    n as usize
 }
 
 // Whether a kind 1 or 2 is due.
@@ -242,7 +223,11 @@ fn setup_frame(due: Due, input: &[u8]) -> usize
     ensures { λ r. ⌜ r ≡ setupFrame due (now (input .entry)) ⌝ }
     ensures { λ r. ⌜ r ≤ length (now (input .entry)) ⌝ }
 {
-    if in_setup(due) { whole_frame(input) } else { 0 }
+    if in_setup(due) {
+        wire::whole_frame(input)
+    } else {
+        0
+    }
 }
 
 // Answers the frame of kind 1 or 2 at the front of the input, where one is due and whole.
@@ -301,7 +286,11 @@ fn next_frame(due: Due, input: &[u8], room: usize) -> usize
     ensures { λ r. ⌜ r ≤ length (now (input .entry)) ⌝ }
 {
     if in_flight(due) {
-        if room < 95 { 0 } else { whole_frame(input) }
+        if room < 95 {
+            0
+        } else {
+            wire::whole_frame(input)
+        }
     } else {
         0
     }

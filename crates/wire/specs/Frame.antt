@@ -9,6 +9,13 @@ use Rattle.wire.specs.Fields.{u16At, le16}
 unfoldable pub frameHead : ℕ → ℕ → List ℕ
 frameHead kind len = le16 len ++ le16 kind
 
+-- the bytes of the whole frame at the start of the input, 2 and its length; 0 where it is not whole yet
+unfoldable pub wholeFrame : List ℕ → ℕ
+wholeFrame s =
+    cond (ltb (length s) 2) 0
+    (cond (ltb (length s) (2 + u16At s 0)) 0
+    (2 + u16At s 0))
+
 -- "When a call declines", in the order 1, length under 2, 2, 3: under 2 bytes, or fewer than 2 + length: 1; length under 2: 3;
 -- not the kind due: 2; length not the kind's, or bytes left over: 3. No fault: 0.
 unfoldable pub frameFault : ℕ → ℕ → List ℕ → ℕ

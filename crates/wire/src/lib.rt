@@ -1,11 +1,11 @@
 // Fields of a frame: little-endian numbers, flags and floats, and the frame's head. Reading past the end of a slice finds
 // bytes of 0; writing changes only what lies within the slice.
 ghost use mathlib.Core.Path.{_≡_};
-ghost use Prim.Native.Nat.{_+_, _*_};
-ghost use lib.Ieee.{binary32, ofBits};
+ghost use Prim.Native.Nat.{_+_, _*_, _≤_};
+ghost use lib.ListN.{length};
 ghost use lib.Seq.{sets};
 ghost use Rattle.wire.specs.Fields.{u8At, u16At, u32At, f32At, flagAt, byteBelow, le8, le16, le32, leF32, leFlag};
-ghost use Rattle.wire.specs.Frame.{frameFault, frameHead};
+ghost use Rattle.wire.specs.Frame.{wholeFrame, frameFault, frameHead};
 
 // The number of two bytes, the lowest first; of four; of two halves.
 fn pair(a: u8, b: u8) -> u16
@@ -24,13 +24,6 @@ fn halves(a: u16, b: u16) -> u32
     ensures { λ r. ⌜ r ≡ a + 65536 * b ⌝ }
 {
     (a as u32) + 65536 * (b as u32)
-}
-
-// The float of a pattern.
-pub fn f32_of(n: u32) -> f32
-    ensures { λ r. ⌜ r ≡ ofBits binary32 n ⌝ }
-{
-    float32::from_bits(n)
 }
 
 pub fn u8_at(s: &[u8], at: usize) -> u8
@@ -165,6 +158,19 @@ fn widened(n: u16) -> usize
     ensures { λ r. ⌜ r ≡ n ⌝ }
 {
     n as usize
+}
+
+// The bytes of the whole frame at the start of s; 0 where there is none yet.
+pub fn whole_frame(s: &[u8]) -> usize
+    ensures { λ r. ⌜ r ≡ wholeFrame (now (s .entry)) ⌝ }
+    ensures { λ r. ⌜ r ≤ length (now (s .entry)) ⌝ }
+{
+    if s.len() < 2 {
+        return 0;
+    }
+    let n = u16_at(s, 0);
+    let bytes = 2 + widened(n);
+    if s.len() < bytes { 0 } else { bytes }
 }
 
 pub fn put_head(s: &mut [u8], kind: u16, len: u16)

@@ -10,8 +10,8 @@ use Rattle.options.proofs.vec3_in.Tie as tie
 word-requires : tie.Need-word-requires
 word-requires c κs = search needs
 
-f32-of-requires : tie.Need-f32-of-requires
-f32-of-requires c κs = search needs
+from-bits-requires : tie.Need-from-bits-requires
+from-bits-requires c κs = search needs
 
 add-word : tie.Need-add-word
 add-word c = search needs
@@ -19,8 +19,8 @@ add-word c = search needs
 word-requires-2 : tie.Need-word-requires-2
 word-requires-2 c κs = search needs
 
-f32-of-requires-2 : tie.Need-f32-of-requires-2
-f32-of-requires-2 c κs = search needs
+from-bits-requires-2 : tie.Need-from-bits-requires-2
+from-bits-requires-2 c κs = search needs
 
 add-word-2 : tie.Need-add-word-2
 add-word-2 c = search needs
@@ -28,17 +28,17 @@ add-word-2 c = search needs
 word-requires-3 : tie.Need-word-requires-3
 word-requires-3 c κs = search needs
 
-f32-of-requires-3 : tie.Need-f32-of-requires-3
-f32-of-requires-3 c κs = search needs
+from-bits-requires-3 : tie.Need-from-bits-requires-3
+from-bits-requires-3 c κs = search needs
 
 returns : tie.Need-returns
 unfolding vec3At f32At
 returns c =
     λ j.
     record {
-      n = (c .before .before .before .before .f32-of .ensures ∙ ap (ofBits binary32) (c .before .before .before .before .before .word .ensures)) j;
-      e = (c .before .before .f32-of2 .ensures ∙ ap (ofBits binary32) (c .before .before .before .word2 .ensures)) j;
-      d = (c .f32-of3 .ensures ∙ ap (ofBits binary32) (c .before .word3 .ensures)) j;
+      n = (c .before .before .before .before .from-bits .ensures ∙ ap (ofBits binary32) (c .before .before .before .before .before .word .ensures)) j;
+      e = (c .before .before .from-bits2 .ensures ∙ ap (ofBits binary32) (c .before .before .before .word2 .ensures)) j;
+      d = (c .from-bits3 .ensures ∙ ap (ofBits binary32) (c .before .word3 .ensures)) j;
     }
 
 pub vec3-in-spec : {M : Type 1} → statement M
@@ -46,11 +46,11 @@ vec3-in-spec =
     tie.close
     (tie.spec
     word-requires
-    f32-of-requires
+    from-bits-requires
     add-word
     word-requires-2
-    f32-of-requires-2
+    from-bits-requires-2
     add-word-2
     word-requires-3
-    f32-of-requires-3
+    from-bits-requires-3
     returns)

@@ -9,7 +9,7 @@ use Rattle.stream.proofs.next_frame.Tie as tie
 use Rattle.stream.proofs.next_frame.Reads as reads
 use Rattle.stream.proofs.next_frame.Lts as lts
 use Rattle.stream.proofs.in_flight.Reads as in-flight-reads
-use Rattle.stream.proofs.whole_frame.Reads as whole-frame-reads
+use Rattle.wire.proofs.whole_frame.Reads as whole-frame-reads
 
 in-flight-requires : tie.Need-in-flight-requires
 in-flight-requires c κs = search needs

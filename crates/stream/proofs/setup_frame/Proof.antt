@@ -8,7 +8,7 @@ use Rattle.stream.proofs.setup_frame.Tie as tie
 use Rattle.stream.proofs.setup_frame.Reads as reads
 use Rattle.stream.proofs.setup_frame.Lts as lts
 use Rattle.stream.proofs.in_setup.Reads as in-setup-reads
-use Rattle.stream.proofs.whole_frame.Reads as whole-frame-reads
+use Rattle.wire.proofs.whole_frame.Reads as whole-frame-reads
 
 in-setup-requires : tie.Need-in-setup-requires
 in-setup-requires c κs = search needs

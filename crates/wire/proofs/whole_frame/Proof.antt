@@ -1,11 +1,11 @@
--- `stream::whole_frame` meets its contract. Assumes nothing.
+-- `wire::whole_frame` meets its contract. Assumes nothing.
 use Prim.Native.Nat.{_+_}
 use native.Mathlib.Omega.{arith}
-use Rattle.stream.specs.Stream.{wholeFrame}
+use Rattle.wire.specs.Frame.{wholeFrame}
 use borrow.Author.Tests.{le-ltb, lt-ltb}
 use borrow.Author.Needs.{needs}
-use Rattle.stream.proofs.whole_frame.Statement.{statement}
-use Rattle.stream.proofs.whole_frame.Tie as tie
+use Rattle.wire.proofs.whole_frame.Statement.{statement}
+use Rattle.wire.proofs.whole_frame.Tie as tie
 
 returns : tie.Need-returns
 unfolding wholeFrame
