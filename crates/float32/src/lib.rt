@@ -26,10 +26,10 @@ pub fn is_finite(x: f32) -> bool
 pub fn from_bits(n: u32) -> f32
     ensures { λ r. ⌜ r ≡ ofBits binary32 n ⌝ }
 {
-    if 0x7f80_0000 < n % 0x8000_0000 {
-        0.0 / 0.0
-    } else {
+    if n % 0x8000_0000 <= 0x7f80_0000 {
         f32::from_bits(n)
+    } else {
+        0.0 / 0.0
     }
 }
 
@@ -37,7 +37,7 @@ pub fn from_bits(n: u32) -> f32
 pub fn to_bits(x: f32) -> u32
     ensures { λ r. ⌜ r ≡ toBits binary32 x ⌝ }
 {
-    if x != x { 0x7fc0_0000 } else { f32::to_bits(x) }
+    if x == x { f32::to_bits(x) } else { 0x7fc0_0000 }
 }
 
 // x without its sign, so +0 for −0. A NaN stays one.

@@ -84,15 +84,14 @@ fn config_at(s: &[u8]) -> Config
 pub fn read_config(s: &[u8]) -> ConfigRead
     ensures { λ r. ⌜ r ≡ readConfig (now (s .entry)) ⌝ }
 {
-    let fault = wire::frame_fault(s, 1, 244);
-    if fault == 0 {
+    if wire::frame_fits(s, 1, 244) {
         if wire::byte_below(s, 9, 2) {
             ConfigRead::Frame(config_at(s))
         } else {
             ConfigRead::Refused(4)
         }
     } else {
-        ConfigRead::Refused(fault)
+        ConfigRead::Refused(wire::frame_fault(s, 1, 244))
     }
 }
 

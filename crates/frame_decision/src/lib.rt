@@ -190,23 +190,12 @@ fn put_slot(s: &mut [u8], at: usize, x: Slot)
     }
 }
 
-// The bytes of all slots.
-fn put_zeros(s: &mut [u8])
-    ensures { λ _. ⌜ now (s .exit) ≡ sets (now (s .entry)) 7 (replicate 57 0) ⌝ }
-{
-    let mut i: usize = 0;
-    while i < 57 {
-        wire::put_u8(s, 7 + i, 0);
-        i += 1;
-    }
-}
-
 // Most requests are absent, so all bytes are made 0 first.
 fn put_slots(s: &mut [u8], a: ActiveSet)
     ensures { λ _. ⌜ now (s .exit) ≡ sets (now (s .entry)) 7 (leSlots 19 (a .reqs)) ⌝ }
 {
     let reqs = a.reqs;
-    put_zeros(s);
+    wire::put_zeros(s, 7, 57);
     let mut i: usize = 0;
     while i < 19 {
         let x = reqs[i];

@@ -1,11 +1,12 @@
 // Kind 5: the supervisor's state, without configuration and fence, in its frame of 186 bytes, read and written.
 ghost use mathlib.Core.Path.{_≡_};
-ghost use Prim.Native.Nat.{_+_, _≤_};
-ghost use lib.ListN.{length, replicate};
+ghost use Prim.Native.Nat.{_+_, _<_, _≤_};
+ghost use lib.ListN.{length};
 ghost use lib.Seq.{sets};
 ghost use Rattle.supervisor.specs.Rules.{finiteVec, finiteStored};
 ghost use Rattle.supervisor.specs.Step.{freshSupervisor};
 ghost use Rattle.wire.specs.Frame.{roomFault, frameWritten};
+ghost use Rattle.wire.specs.Laid.{laid, Blank};
 ghost use Rattle.options.specs.Options.{validOption};
 ghost use Rattle.options.specs.Position.{optionPositionAt};
 ghost use Rattle.frame_state.specs.StateFrame.{timerAt, triggersAt, arbiterAt, stateAt, timersValid, stateValid, readState, leTimer, leLinks, leFence, leBattery, leInput, leTriggers, leArbiter, stateFrame};
@@ -15,6 +16,7 @@ use supervisor::Supervisor;
 use triggers::Timer;
 use triggers::TriggerState;
 use types::OptionPositionSample;
+use types::OptionU32;
 use types::Vec3;
 use validate::GlitchState;
 
@@ -23,11 +25,20 @@ pub enum StateRead {
     Refused(u16),
 }
 
+// The number is read before its flag: a choice between two values takes no branch.
 fn timer_at(s: &[u8], at: usize) -> Timer
+    requires { ⌜ at < 65536 ⌝ }
     ensures { λ r. ⌜ r ≡ timerAt (now (s .entry)) at ⌝ }
 {
-    Timer {
-        since_ms: options::option_u32_at(s, at),
+    let n = wire::u32_at(s, at + 1);
+    if wire::flag_at(s, at) {
+        Timer {
+            since_ms: OptionU32::Some(n),
+        }
+    } else {
+        Timer {
+            since_ms: OptionU32::None,
+        }
     }
 }
 
@@ -173,8 +184,7 @@ fn state_valid(s: &[u8], stored: OptionPositionSample) -> bool
 pub fn read_state(s: &[u8]) -> StateRead
     ensures { λ r. ⌜ r ≡ readState (now (s .entry)) ⌝ }
 {
-    let fault = wire::frame_fault(s, 5, 184);
-    if fault == 0 {
+    if wire::frame_fits(s, 5, 184) {
         let stored = options::option_position_at(s, 145);
         if state_valid(s, stored) {
             StateRead::Frame(state_at(s, stored))
@@ -182,18 +192,27 @@ pub fn read_state(s: &[u8]) -> StateRead
             StateRead::Refused(4)
         }
     } else {
-        StateRead::Refused(fault)
+        StateRead::Refused(wire::frame_fault(s, 5, 184))
     }
 }
 
+// Over bytes of 0, only a timer that runs is written.
 fn put_timer(s: &mut [u8], at: usize, t: Timer)
-    ensures { λ _. ⌜ now (s .exit) ≡ sets (now (s .entry)) at (leTimer t) ⌝ }
+    requires { ⌜ at < 65536 ⌝ }
+    ensures { λ _. ⌜ now (s .exit) ≡ laid (now (s .entry)) at (leTimer t) ⌝ }
 {
     let since_ms = t.since_ms;
-    options::put_option_u32(s, at, since_ms);
+    match since_ms {
+        OptionU32::Some(n) => {
+            wire::put_u8(s, at, 1);
+            wire::put_u32(s, at + 1, n);
+        }
+        OptionU32::None => {}
+    }
 }
 
 fn put_links(s: &mut [u8], t: TriggerState)
+    requires { ⌜ Blank (now s) 4 42 ⌝ }
     ensures { λ _. ⌜ now (s .exit) ≡ sets (now (s .entry)) 4 (leLinks t) ⌝ }
 {
     let gcs_clear_timer = t.gcs_clear_timer;
@@ -217,6 +236,7 @@ fn put_links(s: &mut [u8], t: TriggerState)
 }
 
 fn put_fence(s: &mut [u8], t: TriggerState)
+    requires { ⌜ Blank (now s) 46 30 ⌝ }
     ensures { λ _. ⌜ now (s .exit) ≡ sets (now (s .entry)) 46 (leFence t) ⌝ }
 {
     let fence_breach_set = t.fence_breach_set;
@@ -234,6 +254,7 @@ fn put_fence(s: &mut [u8], t: TriggerState)
 }
 
 fn put_battery(s: &mut [u8], t: TriggerState)
+    requires { ⌜ Blank (now s) 76 45 ⌝ }
     ensures { λ _. ⌜ now (s .exit) ≡ sets (now (s .entry)) 76 (leBattery t) ⌝ }
 {
     let stale_bat_clear = t.stale_bat_clear;
@@ -257,6 +278,7 @@ fn put_battery(s: &mut [u8], t: TriggerState)
 }
 
 fn put_input(s: &mut [u8], t: TriggerState)
+    requires { ⌜ Blank (now s) 121 12 ⌝ }
     ensures { λ _. ⌜ now (s .exit) ≡ sets (now (s .entry)) 121 (leInput t) ⌝ }
 {
     let invalid_clear = t.invalid_clear;
@@ -268,6 +290,7 @@ fn put_input(s: &mut [u8], t: TriggerState)
 }
 
 fn put_triggers(s: &mut [u8], t: TriggerState)
+    requires { ⌜ Blank (now s) 4 129 ⌝ }
     ensures { λ _. ⌜ now (s .exit) ≡ sets (now (s .entry)) 4 (leTriggers t) ⌝ }
 {
     put_links(s, t);
@@ -298,6 +321,7 @@ fn put_state(s: &mut [u8], x: Supervisor)
     let last_accepted = glitch.last_accepted;
     let last_now = x.last_now;
     wire::put_head(s, 5, 184);
+    wire::put_zeros(s, 4, 129);
     put_triggers(s, triggers);
     put_arbiter(s, arbiter);
     options::put_option_u32(s, 140, hold_since_ms);
@@ -320,17 +344,6 @@ pub fn write_state(s: &mut [u8], x: Supervisor) -> u16
     0
 }
 
-// The bytes of a body.
-fn put_zeros(s: &mut [u8])
-    ensures { λ _. ⌜ now (s .exit) ≡ sets (now (s .entry)) 4 (replicate 182 0) ⌝ }
-{
-    let mut i: usize = 0;
-    while i < 182 {
-        wire::put_u8(s, 4 + i, 0);
-        i += 1;
-    }
-}
-
 // The same for a fresh state, whose body is zero bytes alone. A second caller of `write_state` in the entries would keep it out
 // of the step's own code.
 pub fn write_fresh(s: &mut [u8]) -> u16
@@ -340,6 +353,6 @@ pub fn write_fresh(s: &mut [u8]) -> u16
         return 5;
     }
     wire::put_head(s, 5, 184);
-    put_zeros(s);
+    wire::put_zeros(s, 4, 182);
     0
 }

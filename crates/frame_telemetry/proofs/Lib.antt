@@ -1,3 +1,5 @@
 -- The laws of a Telemetry frame.
+pub mod Checked
+pub mod Present
 pub mod Stamped
 pub mod Size

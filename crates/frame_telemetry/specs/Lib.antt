@@ -1,3 +1,4 @@
 -- The definitions that the contracts of `frame_telemetry` cite.
 pub mod Readings
+pub mod Checked
 pub mod TelemetryFrame

@@ -53,11 +53,11 @@ unfoldable pub telemetryValid : List ℕ → Bool
 telemetryValid s = allTrue (validOption s 8 28) (telemetryTests s)
 
 -- the frame read: the head's refusal, 4, or the value
+abbrev pub readBody : List ℕ → TelemetryRead
+readBody s = cond (telemetryValid s) (TelemetryRead.Frame (telemetryAt s)) (TelemetryRead.Refused 4)
+
 unfoldable pub readTelemetry : List ℕ → TelemetryRead
-readTelemetry s =
-    cond (eqb (frameFault 3 104 s) 0)
-    (cond (telemetryValid s) (TelemetryRead.Frame (telemetryAt s)) (TelemetryRead.Refused 4))
-    (TelemetryRead.Refused (frameFault 3 104 s))
+readTelemetry s = cond (eqb (frameFault 3 104 s) 0) (readBody s) (TelemetryRead.Refused (frameFault 3 104 s))
 
 -- the fields as cells, in four parts
 unfoldable pub batteryCells : BatteryInputs → List Cell

@@ -2,13 +2,13 @@
 use Prim.Native.Nat.{ℕ, zero, suc, _+_, _<_, _^_}
 use mathlib.Core.Path.{_≡_, _∙_, ap, refl, sym}
 use mathlib.Core.List.{List, [], _∷_, _++_}
-use mathlib.Core.Bool.{Bool, true, cond, false≢true}
+use mathlib.Core.Bool.{Bool, true, false, cond, _&&_, false≢true}
 use native.Mathlib.Nat.{add-zero}
 use native.Mathlib.Omega.{arith}
 use lib.Dec.{T, eqb}
 use lib.ListN.{replicate}
 use lib.Ieee.{Float, binary32, fits, ofBits, toBits}
-use borrow.Author.Tests.{eqb-true, ne-eqb}
+use borrow.Author.Tests.{eqb-true, eq-eqb, ne-eqb}
 use Rattle.types.specs.declared.OptionU8.{OptionU8}
 use Rattle.types.specs.declared.OptionU32.{OptionU32}
 use Rattle.types.specs.declared.OptionF32.{OptionF32}
@@ -33,6 +33,20 @@ absent-f32 = refl
 pub absent-position : leOptionPosition OptionPositionSample.None ≡ replicate 29 0
 unfolding leOptionPosition leVec3 leF32 le32 leBytes leFlag toBits ofBits
 absent-position = refl
+
+-- a byte 1, whatever stands after it
+pub present : (s : List ℕ) (i n : ℕ) → u8At s i ≡ 1 → validOption s i n ≡ true
+unfolding validOption
+present s i n e = simp (ne-eqb (u8At s i) 0 (λ h. omega arith), eq-eqb (u8At s i) 1 e)
+
+-- a byte that is not 1: only a byte 0 with bytes 0 after it
+pub absent : (s : List ℕ) (i n : ℕ) → (u8At s i ≡ 1 → ⊥) → validOption s i n ≡ (eqb (u8At s i) 0 && zeros s (i + 1) n)
+unfolding validOption
+absent s i n h = go (eqb (u8At s i) 0)
+  where
+    go : (b : Bool) → cond b (zeros s (i + 1) n) (eqb (u8At s i) 1) ≡ (b && zeros s (i + 1) n)
+    go true = refl
+    go false = ne-eqb (u8At s i) 1 h
 
 -- the value, its bytes, the value
 pub option-u8-back : (o : OptionU8) → optionU8At (leOptionU8 o) 0 ≡ o

@@ -1,12 +1,12 @@
 // Values that may be absent and enums, in a frame: tested, read and written. An absent value is all zero bytes.
 ghost use mathlib.Core.Path.{_≡_};
 ghost use mathlib.Core.List.{_∷_};
-ghost use Prim.Native.Nat.{_+_, _^_, _<_, _≤_, min};
+ghost use Prim.Native.Nat.{_+_, _^_, _<_, _≤_};
 ghost use lib.ListN.{length};
 ghost use lib.Seq.{sets};
 ghost use Rattle.wire.specs.Fields.{u32At, le32};
 ghost use Rattle.options.specs.Enums.{actionAt, reasonAt, leAction, leReason};
-ghost use Rattle.options.specs.Options.{zeros, validOption, isSomeU8, u8OrZero, optionU8At, leOptionU8, isSomeU32, u32OrZero, optionU32At, leOptionU32, isSomeF32, f32OrZero, optionF32At, leOptionF32};
+ghost use Rattle.options.specs.Options.{zeros, validOption, optionU8At, isSomeU32, u32OrZero, optionU32At, leOptionU32, isSomeF32, f32OrZero, optionF32At, leOptionF32};
 ghost use Rattle.options.specs.Position.{vec3At, leVec3, zeroSample, isSomePosition, positionOrZero, optionPositionAt, leOptionPosition};
 use types::Action;
 use types::OptionAction;
@@ -55,12 +55,6 @@ fn zero_bytes(s: &[u8], at: usize, n: usize) -> bool
     zero
 }
 
-fn smaller(a: usize, b: usize) -> usize
-    ensures { λ r. ⌜ r ≡ min a b ⌝ }
-{
-    if a < b { a } else { b }
-}
-
 // Whether a value of `n` bytes that may be absent is a byte 0 with `n` bytes 0 after it, or a byte 1.
 pub fn option_valid(s: &[u8], at: usize, n: usize) -> bool
     ensures { λ r. ⌜ r ≡ validOption (now (s .entry)) at n ⌝ }
@@ -68,30 +62,12 @@ pub fn option_valid(s: &[u8], at: usize, n: usize) -> bool
     if at < s.len() {
         let f = s[at];
         if f == 0 {
-            zero_words(s, at + 1, smaller(n, s.len() - (at + 1)))
+            zero_words(s, at + 1, wire::smaller(n, s.len() - (at + 1)))
         } else {
             f == 1
         }
     } else {
         true
-    }
-}
-
-fn is_some_u8(o: OptionU8) -> bool
-    ensures { λ r. ⌜ r ≡ isSomeU8 o ⌝ }
-{
-    match o {
-        OptionU8::Some(_) => true,
-        OptionU8::None => false,
-    }
-}
-
-fn u8_or_zero(o: OptionU8) -> u8
-    ensures { λ r. ⌜ r ≡ u8OrZero o ⌝ }
-{
-    match o {
-        OptionU8::Some(n) => n,
-        OptionU8::None => 0,
     }
 }
 
@@ -102,15 +78,6 @@ pub fn option_u8_at(s: &[u8], at: usize) -> OptionU8
         OptionU8::Some(wire::u8_at(s, at + 1))
     } else {
         OptionU8::None
-    }
-}
-
-pub fn put_option_u8(s: &mut [u8], at: usize, o: OptionU8)
-    ensures { λ _. ⌜ now (s .exit) ≡ sets (now (s .entry)) at (leOptionU8 o) ⌝ }
-{
-    if at < s.len() {
-        wire::put_flag(s, at, is_some_u8(o));
-        wire::put_u8(s, at + 1, u8_or_zero(o));
     }
 }
 

@@ -6,7 +6,7 @@ use mathlib.Core.List.{List, _++_}
 use native.Mathlib.Omega.{arith}
 use lib.ListN.{length}
 use lib.Dec.{ltb, eqb}
-use borrow.Author.Tests.{eqb-true, eq-eqb, le-ltb, lt-ltb}
+use borrow.Author.Tests.{eqb-true, eq-eqb, ne-eqb, le-ltb, lt-ltb, ltb-true, ltb-false}
 use Rattle.wire.specs.Fields.{Bytes, u8At, numberAt, u16At, leBytes, le16, bytesFrom}
 use Rattle.wire.specs.Frame.{frameFault, frameHead, roomFault, frameWritten}
 use lib.Seq.{sets}
@@ -47,6 +47,25 @@ head-sound kind len s h k n e =
       eq-eqb (u16At s 0) len n,
       eq-eqb (length s) (2 + len) e,
     )
+
+-- kind and lengths are those due: only a length under 2 is still at fault
+pub due : (kind len : ℕ) (s : List ℕ) → u16At s 2 ≡ kind → u16At s 0 ≡ len → length s ≡ 2 + len → ltb 1 len ≡ eqb (frameFault kind len s) 0
+unfolding frameFault
+due kind len s k n e = go (ltb 1 len) refl
+  where
+    go : (b : Bool) → ltb 1 len ≡ b → b ≡ eqb (frameFault kind len s) 0
+    go true h = sym (eq-eqb (frameFault kind len s) 0 (head-sound kind len s (omega (arith, ltb-true 1 len h)) k n e))
+    go false h =
+        sym
+        (simp (
+          le-ltb (length s) 2 (omega arith),
+          le-ltb (length s) (2 + u16At s 0) (omega arith),
+          lt-ltb (u16At s 0) 2 (omega (arith, ltb-false 1 len h)),
+        ))
+
+-- one of them is not
+pub not-due : (kind len : ℕ) (s : List ℕ) → ((u16At s 2 ≡ kind) × ((u16At s 0 ≡ len) × (length s ≡ 2 + len)) → ⊥) → false ≡ eqb (frameFault kind len s) 0
+not-due kind len s h = sym (ne-eqb (frameFault kind len s) 0 (λ e. h (head-says kind len s e)))
 
 -- a head with the body that it announces
 pub frame-sound : (kind len : ℕ) (body : List ℕ) → kind < 2 ^ 16 → len < 2 ^ 16 → 2 ≤ len → length body + 2 ≡ len → frameFault kind len (frameHead kind len ++ body) ≡ 0

@@ -2,6 +2,8 @@
 pub mod Past
 pub mod Number
 pub mod Stores
+pub mod Over
+pub mod Laid
 pub mod Fields
 pub mod Whole
 pub mod Head

@@ -2,3 +2,4 @@
 pub mod Fields
 pub mod Cell
 pub mod Frame
+pub mod Laid

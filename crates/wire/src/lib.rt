@@ -1,8 +1,9 @@
 // Fields of a frame: little-endian numbers, flags and floats, and the frame's head. Reading past the end of a slice finds
 // bytes of 0; writing changes only what lies within the slice.
 ghost use mathlib.Core.Path.{_≡_};
-ghost use Prim.Native.Nat.{_+_, _*_, _≤_};
-ghost use lib.ListN.{length};
+ghost use Prim.Native.Nat.{_+_, _*_, _≤_, min};
+ghost use lib.Dec.{eqb};
+ghost use lib.ListN.{length, replicate};
 ghost use lib.Seq.{sets};
 ghost use Rattle.wire.specs.Fields.{u8At, u16At, u32At, f32At, flagAt, byteBelow, le8, le16, le32, leF32, leFlag};
 ghost use Rattle.wire.specs.Frame.{wholeFrame, frameFault, frameHead};
@@ -128,6 +129,26 @@ pub fn put_flag(s: &mut [u8], at: usize, b: bool)
     }
 }
 
+pub fn smaller(a: usize, b: usize) -> usize
+    ensures { λ r. ⌜ r ≡ min a b ⌝ }
+{
+    if a < b { a } else { b }
+}
+
+// `n` bytes of 0.
+pub fn put_zeros(s: &mut [u8], at: usize, n: usize)
+    ensures { λ _. ⌜ now (s .exit) ≡ sets (now (s .entry)) at (replicate n 0) ⌝ }
+{
+    if at < s.len() {
+        let within = smaller(n, s.len() - at);
+        let mut i: usize = 0;
+        while i < within {
+            s[at + i] = 0;
+            i += 1;
+        }
+    }
+}
+
 // The refusal number that a frame's head earns, 0 for none: `kind` is due, and `len` bytes of kind and body.
 pub fn frame_fault(s: &[u8], kind: u16, len: u16) -> u16
     ensures { λ r. ⌜ r ≡ frameFault kind len (now (s .entry)) ⌝ }
@@ -152,6 +173,18 @@ pub fn frame_fault(s: &[u8], kind: u16, len: u16) -> u16
         return 3;
     }
     2
+}
+
+// Whether a frame's head earns no refusal, by the fewest tests. `frame_fault` tells which refusal it earns.
+pub fn frame_fits(s: &[u8], kind: u16, len: u16) -> bool
+    ensures { λ r. ⌜ r ≡ eqb (frameFault kind len (now (s .entry))) 0 ⌝ }
+{
+    if s.len() == 2 + widened(len) {
+        if u32_at(s, 0) == halves(len, kind) {
+            return 1 < len;
+        }
+    }
+    false
 }
 
 fn widened(n: u16) -> usize

@@ -13,7 +13,8 @@ use frames::{
 use crate::{Flight, clock, ratio, summary, tell};
 
 const ROUNDS: usize = 61;
-const TURNS: usize = 20;
+/// Calls in a round, of one frame or of many: enough that reading the clock costs a call nothing.
+const CALLS: usize = 8000;
 
 type Entry = unsafe extern "C" fn(*const u8, usize, *mut u8, usize) -> u32;
 
@@ -49,15 +50,16 @@ fn plain_state(frame: &[u8], to: &mut [u8]) -> u32 {
 /// Nanoseconds a frame, of all frames one after the other.
 fn time<const N: usize>(frames: &[[u8; N]], again: &dyn Fn(&[u8], &mut [u8]) -> u32) -> f64 {
     let mut to = [0; N];
+    let turns = CALLS / frames.len();
     let all = || {
-        for _ in 0..TURNS {
+        for _ in 0..turns {
             for frame in frames {
                 assert_eq!(again(black_box(frame), &mut to), 0);
                 black_box(&to);
             }
         }
     };
-    clock::ns(all) / (TURNS * frames.len()) as f64
+    clock::ns(all) / (turns * frames.len()) as f64
 }
 
 fn compare<const N: usize>(

@@ -12,7 +12,7 @@ use Rattle.types.specs.ActiveSet.{noRequest}
 use Rattle.wire.specs.Fields.{leFlag, le8}
 use Rattle.wire.proofs.Stores.{sets-append}
 use Rattle.frame_decision.specs.Slots.{leSlot, leSlots}
-use Rattle.frame_decision.proofs.Over.{over, over-middle}
+use Rattle.wire.proofs.Over.{over, over-middle}
 use Rattle.frame_decision.proofs.put_slots.Statement.{statement}
 use Rattle.frame_decision.proofs.put_slots.Tie as tie
 

@@ -2,17 +2,20 @@
 use Prim.Native.Nat.{ℕ}
 use mathlib.Core.Path.{_≡_, _∙_, ap, refl}
 use mathlib.Core.List.{List, [], _∷_}
-use lib.ListN.{length}
+use lib.ListN.{length, replicate}
 use lib.Seq.{sets, length-sets}
 use denote.Ref.{now}
 use Rattle.wire.specs.Fields.{le8, leFlag, leBytes, le16, le32, leF32}
 use Rattle.wire.specs.Frame.{frameHead}
+use Rattle.wire.proofs.Laid.{zeroed}
+use Rattle.wire.proofs.Over.{over-all}
 use Rattle.wire.proofs.Stores.{Piece, put, after, done, into, ran}
 use Rattle.options.specs.Options.{leOptionU32}
 use Rattle.options.specs.Position.{leVec3, leOptionPosition}
 use Rattle.options.specs.Enums.{leAction, leReason}
 use Rattle.supervisor.specs.declared.Supervisor.{Supervisor}
 use Rattle.frame_state.specs.StateFrame.{leTimer, leLinks, leFence, leBattery, leInput, leTriggers, leArbiter, stateFrame}
+use borrow.Author.Needs.{needs}
 use Rattle.frame_state.proofs.put_state.Statement.{statement}
 use Rattle.frame_state.proofs.put_state.Tie as tie
 
@@ -34,6 +37,44 @@ flat : (l : List ℕ) (x : Supervisor) → after l (pieces x) ≡ sets l 0 (stat
 unfolding stateFrame frameHead leTriggers leLinks leFence leBattery leInput leTimer leArbiter leAction leReason leOptionU32 leOptionPosition leVec3 leF32 le8 le16 le32 leBytes leFlag
 flat l x = refl
 
+-- the triggers over the zeros
+anew : {m r : List ℕ} (l : List ℕ) (x : Supervisor) → m ≡ sets l 4 (replicate 129 0) → r ≡ sets m 4 (leTriggers (x .triggers)) → r ≡ sets l 4 (leTriggers (x .triggers))
+unfolding leTriggers leLinks leFence leBattery leInput leTimer leOptionU32 le8 le32 leBytes leFlag
+anew l x e f = f ∙ ap (λ (k : List ℕ). sets k 4 (leTriggers (x .triggers))) e ∙ over-all l 4 (replicate 129 0) (leTriggers (x .triggers)) refl
+
+put-head-requires : tie.Need-put-head-requires
+put-head-requires c κs = search needs
+
+put-zeros-requires : tie.Need-put-zeros-requires
+put-zeros-requires c κs = search needs
+
+put-triggers-requires : tie.Need-put-triggers-requires
+put-triggers-requires c κs = zeroed (c .before .before .before .before .before .before .before .put-head .last .0) 4 129 (c .before .before .before .put-zeros .ensures)
+
+put-arbiter-requires : tie.Need-put-arbiter-requires
+put-arbiter-requires c κs = search needs
+
+put-option-u32-requires : tie.Need-put-option-u32-requires
+put-option-u32-requires c κs = search needs
+
+put-option-position-requires : tie.Need-put-option-position-requires
+put-option-position-requires c κs = search needs
+
+put-u8-requires : tie.Need-put-u8-requires
+put-u8-requires c κs = search needs
+
+put-option-u32-requires-2 : tie.Need-put-option-u32-requires-2
+put-option-u32-requires-2 c κs = search needs
+
+put-u32-requires : tie.Need-put-u32-requires
+put-u32-requires c κs = search needs
+
+put-u8-requires-2 : tie.Need-put-u8-requires-2
+put-u8-requires-2 c κs = search needs
+
+put-flag-requires : tie.Need-put-flag-requires
+put-flag-requires c κs = search needs
+
 returns : tie.Need-returns
 returns c =
     let p10 = c .before .before in
@@ -45,11 +86,12 @@ returns c =
     let p4 = p5 .before .before .before .before in
     let p3 = p4 .before .before .before .before in
     let p2 = p3 .before .before .before .before in
-    let p1 = p2 .before .before .before .before in
+    let z = p2 .before .before .before .before in
+    let p1 = z .before .before .before .before in
     let a = p1 .before .before .before .before .before .before .before .args in
     ran (now (a .s)) (pieces (a .x)) _
     (into (p1 .put-head .ensures)
-    (into (p2 .put-triggers .ensures)
+    (into (anew _ (a .x) (z .put-zeros .ensures) (p2 .put-triggers .ensures))
     (into (p3 .put-arbiter .ensures)
     (into (p4 .put-option-u32 .ensures)
     (into (p5 .put-option-position .ensures)
@@ -68,15 +110,16 @@ pub put-state-spec : {M : Type 1} → statement M
 put-state-spec =
     tie.close
     (tie.spec
-    (λ c κs. tt)
-    (λ c κs. tt)
-    (λ c κs. tt)
-    (λ c κs. tt)
-    (λ c κs. tt)
-    (λ c κs. tt)
-    (λ c κs. tt)
-    (λ c κs. tt)
-    (λ c κs. tt)
-    (λ c κs. tt)
+    put-head-requires
+    put-zeros-requires
+    put-triggers-requires
+    put-arbiter-requires
+    put-option-u32-requires
+    put-option-position-requires
+    put-u8-requires
+    put-option-u32-requires-2
+    put-u32-requires
+    put-u8-requires-2
+    put-flag-requires
     same-length
     returns)

@@ -8,7 +8,7 @@ use Rattle.wire.specs.Cell.{bytesOf}
 use Rattle.wire.proofs.Stores.{Piece, put, after, done, into, ran}
 use Rattle.wire.specs.Fields.{le8, leFlag, leBytes, le16, le32, leF32}
 use Rattle.wire.specs.Frame.{frameHead}
-use Rattle.options.specs.Position.{leVec3, leOptionPosition}
+use Rattle.options.specs.Position.{positionCells}
 use Rattle.types.specs.declared.Telemetry.{Telemetry}
 use Rattle.frame_telemetry.specs.Readings.{gpsCells}
 use Rattle.frame_telemetry.specs.TelemetryFrame.{batteryCells, statusCells, telemetryCells, telemetryFrame}
@@ -20,14 +20,14 @@ abbrev pieces : Telemetry → List Piece
 pieces t =
     put 0 (frameHead 3 104) ∷
     put 4 (le32 (t .«now_ms»)) ∷
-    put 8 (leOptionPosition (t .position)) ∷
+    put 8 (bytesOf (positionCells (t .position))) ∷
     put 37 (bytesOf (gpsCells (t .gps))) ∷
     put 50 (bytesOf (batteryCells (t .battery))) ∷
     put 77 (bytesOf (statusCells t)) ∷
     []
 
 flat : (l : List ℕ) (t : Telemetry) → after l (pieces t) ≡ sets l 0 (telemetryFrame t)
-unfolding telemetryFrame telemetryCells batteryCells statusCells leOptionPosition leVec3 frameHead le8 leFlag leBytes le16 le32 leF32
+unfolding telemetryFrame telemetryCells batteryCells statusCells frameHead le8 leFlag leBytes le16 le32 leF32
 flat l t = refl
 
 put-head-requires : tie.Need-put-head-requires
