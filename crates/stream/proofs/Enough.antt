@@ -11,7 +11,7 @@ use Rattle.flight.specs.declared.Flight.{Flight}
 use Rattle.supervisor.specs.declared.Supervisor.{Supervisor}
 use Rattle.wire.specs.Frame.{wholeFrame}
 use Rattle.stream.specs.declared.Due.{Due}
-use Rattle.stream.specs.Stream.{Progress, inFlight, nextFrame, nextOf, answerNext, answerFrames, flyFrames, takeOff}
+use Rattle.stream.specs.Stream.{Progress, inFlight, nextFrame, nextOf, answerNext, answerFrames, flyFrames, nothingTaken}
 
 -- of fewer than two bytes none is a frame
 no-frame : (due : Due) (input : List ℕ) (room : ℕ) → length input ≤ 0 → nextFrame due input room ≡ 0
@@ -42,4 +42,4 @@ none-left (suc turns) f input size p h =
 
 pub enough : (f : Flight) (s : Supervisor) (input : List ℕ) (size : ℕ) → nextOf input size (flyFrames f s input size) ≡ 0
 unfolding flyFrames
-enough f s input size = none-left (length input) f input size (takeOff s) (omega arith)
+enough f s input size = none-left (length input) f input size (nothingTaken s) (omega arith)

@@ -18,9 +18,9 @@ use Rattle.frame_refusal.proofs.Size.{size as refusal-size}
 use Rattle.flight.specs.declared.Flight.{Flight}
 use Rattle.flight.specs.Flight.{stepFlight}
 use Rattle.stream.specs.declared.Due.{Due}
-use Rattle.stream.specs.declared.Flew.{Flew}
-use Rattle.stream.specs.declared.Flown.{Flown}
-use Rattle.stream.specs.Stream.{Progress, inFlight, nextFrame, nextOf, answerNext, answerFrames, progress, flew, putCount, bytesFor, flown}
+use Rattle.stream.specs.declared.FramesAnswer.{FramesAnswer}
+use Rattle.stream.specs.declared.FrameAnswer.{FrameAnswer}
+use Rattle.stream.specs.Stream.{Progress, inFlight, nextFrame, nextOf, answerNext, answerFrames, progress, framesAnswer, putCount, bytesFor, frameAnswer}
 
 -- the part of a slice from a place on, as the borrow checker gives it
 rest : (s : List ℕ) (i : ℕ) → take (length s - i) (drop i s) ≡ drop i s
@@ -40,7 +40,7 @@ room-for due input room n e h = by (inFlight due) e
     by false q = absurd (omega arith)
 
 -- the next frame, from what the code knows
-pub next-of : (p : Flew) (input out : List ℕ) (n : ℕ)
+pub next-of : (p : FramesAnswer) (input out : List ℕ) (n : ℕ)
     → p .put ≤ length out
     → n ≡ nextFrame (p .due) (take (length input - p .taken) (drop (p .taken) input)) (length out - p .put)
     → n ≡ nextOf input (length out) (progress p out)
@@ -70,7 +70,7 @@ spent zero f input size p h = refl
 spent (suc turns) f input size p h = absurd (omega arith)
 
 -- where a frame is answered next, the output has room for its answer
-pub room-next : (p : Flew) (input out : List ℕ) (n : ℕ) → p .put ≤ length out → n ≡ nextOf input (length out) (progress p out) → 0 < n → p .put + 95 ≤ length out
+pub room-next : (p : FramesAnswer) (input out : List ℕ) (n : ℕ) → p .put ≤ length out → n ≡ nextOf input (length out) (progress p out) → 0 < n → p .put + 95 ≤ length out
 unfolding nextOf
 room-next p input out n h e z =
     let room : 95 ≤ length out - length (take (p .put) out) = room-for (p .due) (drop (p .taken) input) (length out - length (take (p .put) out)) n e z in
@@ -104,9 +104,9 @@ module _ (out bytes : List ℕ) (put : ℕ) (fits : put + length bytes ≤ lengt
   left-then = rw (into, drop-at (take put out ++ bytes) (drop (put + length bytes) out) (put + length bytes) size)
 
 -- what the code has at the end, from how far it is
-pub ends : (p : Flew) (out out₀ : List ℕ) (q : Progress)
+pub ends : (p : FramesAnswer) (out out₀ : List ℕ) (q : Progress)
     → progress p out ≡ q → p .put ≤ length out → length out ≡ length out₀ → drop (p .put) out ≡ drop (p .put) out₀
-    → (p ≡ flew q) × (out ≡ frameWritten (q .written) out₀)
+    → (p ≡ framesAnswer q) × (out ≡ frameWritten (q .written) out₀)
 unfolding frameWritten
 ends p out out₀ q e h l d =
     rw (← e, length-take-le (p .put) out h, le-ltb (length out₀) (p .put) (omega arith), ← d, take-append-drop) (refl, refl)
@@ -116,18 +116,18 @@ pub in-rest : (input : List ℕ) (i n : ℕ) → i ≤ length input → n ≤ le
 in-rest input i n h k = omega (arith, rw (rest input i, length-drop i input) at k)
 
 -- the frame of n bytes behind those taken, as the code reads it
-abbrev readOf : Flew → ℕ → List ℕ → TelemetryRead
+abbrev readOf : FramesAnswer → ℕ → List ℕ → TelemetryRead
 readOf p n input = readTelemetry (take (p .taken + n - p .taken) (drop (p .taken) input))
 
 -- one frame answered: what the code has then, from what it had
-module _ (f : Flight) (p : Flew) (n : ℕ) (input out : List ℕ) (a : Flown) (part : List ℕ) (room : p .put + 95 ≤ length out)
-    (e : a ≡ flown (readOf p n input) f (p .supervisor) (midOf (p .put) (length out - p .put) out))
+module _ (f : Flight) (p : FramesAnswer) (n : ℕ) (input out : List ℕ) (a : FrameAnswer) (part : List ℕ) (room : p .put + 95 ≤ length out)
+    (e : a ≡ frameAnswer (readOf p n input) f (p .supervisor) (midOf (p .put) (length out - p .put) out))
     (q : part ≡ frameWritten (bytesFor (readOf p n input) f (p .supervisor)) (midOf (p .put) (length out - p .put) out)) where
   fits : p .put + length (bytesFor (readOf p n input) f (p .supervisor)) ≤ length out
   fits = omega (arith, answer-size (readOf p n input) f (p .supervisor))
 
   put-all : a .put ≡ length (bytesFor (readOf p n input) f (p .supervisor))
-  put-all = ap (λ (x : Flown). x .put) e ∙ counted out (bytesFor (readOf p n input) f (p .supervisor)) (p .put) fits
+  put-all = ap (λ (x : FrameAnswer). x .put) e ∙ counted out (bytesFor (readOf p n input) f (p .supervisor)) (p .put) fits
 
   pub step-put : p .put + a .put ≤ length out
   step-put = rw put-all fits

@@ -23,8 +23,8 @@ use Rattle.stream.specs.declared.Due.{Due}
 use Rattle.stream.specs.declared.Session.{Session}
 use Rattle.stream.specs.declared.Answer.{Answer}
 use Rattle.stream.specs.declared.SetUp.{SetUp}
-use Rattle.stream.specs.declared.Flown.{Flown}
-use Rattle.stream.specs.declared.Flew.{Flew}
+use Rattle.stream.specs.declared.FrameAnswer.{FrameAnswer}
+use Rattle.stream.specs.declared.FramesAnswer.{FramesAnswer}
 
 abbrev pub session : Due → Flight → Supervisor → Session
 session due f s = record { due = due; flight = f; supervisor = s }
@@ -139,8 +139,8 @@ supervisorAfter (TelemetryRead.Refused n) f s = s
 supervisorAfter (TelemetryRead.Frame t) f s = stepFlight f s t .supervisor
 
 -- what is due after a frame, the supervisor then, and how many of the bytes are put into a slice
-abbrev pub flown : TelemetryRead → Flight → Supervisor → List ℕ → Flown
-flown read f s out = record { due = dueAfter read; supervisor = supervisorAfter read f s; put = putCount (bytesFor read f s) out }
+abbrev pub frameAnswer : TelemetryRead → Flight → Supervisor → List ℕ → FrameAnswer
+frameAnswer read f s out = record { due = dueAfter read; supervisor = supervisorAfter read f s; put = putCount (bytesFor read f s) out }
 
 -- ---- kind 3 frames, one after the other
 
@@ -152,8 +152,8 @@ pub record Progress : Type 0 where
   pub written : List ℕ
 
 -- before the first of them
-abbrev pub takeOff : Supervisor → Progress
-takeOff s = record { due = Due.Telemetry; supervisor = s; taken = 0; written = [] }
+abbrev pub nothingTaken : Supervisor → Progress
+nothingTaken s = record { due = Due.Telemetry; supervisor = s; taken = 0; written = [] }
 
 -- the bytes of the frame at the front of the input that is answered: 0, for none, where no kind 3 is due, where there is no room for one more answer, of 95
 -- bytes at most, and where no whole frame is there
@@ -184,14 +184,14 @@ answerFrames (suc turns) f input size p =
 
 -- every frame that there is: a frame has at least two bytes, so as many turns as there are bytes are enough (proofs/Enough.antt)
 unfoldable pub flyFrames : Flight → Supervisor → List ℕ → ℕ → Progress
-flyFrames f s input size = answerFrames (length input) f input size (takeOff s)
+flyFrames f s input size = answerFrames (length input) f input size (nothingTaken s)
 
 -- what is due then, the supervisor, how many bytes were taken, and how many were written
-abbrev pub flew : Progress → Flew
-flew p = record { due = p .due; supervisor = p .supervisor; taken = p .taken; put = length (p .written) }
+abbrev pub framesAnswer : Progress → FramesAnswer
+framesAnswer p = record { due = p .due; supervisor = p .supervisor; taken = p .taken; put = length (p .written) }
 
 -- how far it is, where the bytes written so far are the first of the output
-abbrev pub progress : Flew → List ℕ → Progress
+abbrev pub progress : FramesAnswer → List ℕ → Progress
 progress p out = record { due = p .due; supervisor = p .supervisor; taken = p .taken; written = take (p .put) out }
 
 -- ---- the end

@@ -7,7 +7,7 @@ ghost use Rattle.wire.specs.Frame.{frameWritten};
 ghost use Rattle.frame_decision.specs.DecisionFrame.{decisionFrame};
 ghost use Rattle.frame_refusal.specs.RefusalFrame.{refusalFrame};
 ghost use Rattle.frame_telemetry.specs.TelemetryFrame.{readTelemetry};
-ghost use Rattle.stream.specs.Stream.{begin, silent, refusal, flying, withConfig, answerConfig, answerFence, answerSetup, answered, setupFrame, replySetup, setUp, putCount, bytesFor, flown, nextFrame, nextOf, answerNext, flyFrames, flew, progress, inSetup, inFlight, endBytes};
+ghost use Rattle.stream.specs.Stream.{begin, silent, refusal, flying, withConfig, answerConfig, answerFence, answerSetup, answered, setupFrame, replySetup, setUp, putCount, bytesFor, frameAnswer, nextFrame, nextOf, answerNext, flyFrames, framesAnswer, progress, inSetup, inFlight, endBytes};
 use config::Config;
 use flight::Flight;
 use frame_config::ConfigRead;
@@ -43,14 +43,14 @@ pub struct SetUp {
 }
 
 // What is due after a frame of kind 3, the supervisor then, and how many bytes were put.
-struct Flown {
+struct FrameAnswer {
     due: Due,
     supervisor: Supervisor,
     put: usize,
 }
 
 // What is due after frames of kind 3, the supervisor then, how many bytes of the input were taken, and how many were put.
-pub struct Flew {
+pub struct FramesAnswer {
     pub due: Due,
     pub supervisor: Supervisor,
     pub taken: usize,
@@ -256,12 +256,12 @@ pub fn set_up(session: Session, input: &[u8], out: &mut [u8]) -> SetUp
 // ---- kind 3 frames
 
 // One whole frame of kind 3. The flight is handed in anew each time, so that a loop over frames copies only the supervisor.
-fn fly_frame(f: Flight, s: Supervisor, frame: &[u8], out: &mut [u8]) -> Flown
-    ensures { λ r. ⌜ r ≡ flown (readTelemetry (now (frame .entry))) f s (now (out .entry)) ⌝ }
+fn fly_frame(f: Flight, s: Supervisor, frame: &[u8], out: &mut [u8]) -> FrameAnswer
+    ensures { λ r. ⌜ r ≡ frameAnswer (readTelemetry (now (frame .entry))) f s (now (out .entry)) ⌝ }
     ensures { λ _. ⌜ now (out .exit) ≡ frameWritten (bytesFor (readTelemetry (now (frame .entry))) f s) (now (out .entry)) ⌝ }
 {
     match frame_telemetry::read_telemetry(frame) {
-        TelemetryRead::Refused(n) => Flown {
+        TelemetryRead::Refused(n) => FrameAnswer {
             due: Due::Nothing,
             supervisor: s,
             put: put_refusal(n, out),
@@ -270,7 +270,7 @@ fn fly_frame(f: Flight, s: Supervisor, frame: &[u8], out: &mut [u8]) -> Flown
             let next = flight::step_flight(f, s, t);
             let after = next.supervisor;
             let d = next.decision;
-            Flown {
+            FrameAnswer {
                 due: Due::Telemetry,
                 supervisor: after,
                 put: put_decision(d, out),
@@ -297,7 +297,7 @@ fn next_frame(due: Due, input: &[u8], room: usize) -> usize
 }
 
 // The same behind the frames that were taken.
-fn next_of(p: Flew, input: &[u8], out: &[u8]) -> usize
+fn next_of(p: FramesAnswer, input: &[u8], out: &[u8]) -> usize
     requires { ⌜ p .taken ≤ length (now input) ⌝ }
     requires { ⌜ p .put ≤ length (now out) ⌝ }
     ensures { λ r. ⌜ r ≡ nextOf (now (input .entry)) (length (now (out .entry))) (progress p (now (out .entry))) ⌝ }
@@ -310,7 +310,7 @@ fn next_of(p: Flew, input: &[u8], out: &[u8]) -> usize
 }
 
 // Answers the next frame, which has n bytes.
-fn fly_next(f: Flight, p: Flew, n: usize, input: &[u8], out: &mut [u8]) -> Flew
+fn fly_next(f: Flight, p: FramesAnswer, n: usize, input: &[u8], out: &mut [u8]) -> FramesAnswer
     requires { ⌜ p .taken + n ≤ length (now input) ⌝ }
     requires { ⌜ p .put + 95 ≤ length (now out) ⌝ }
     ensures { λ r. ⌜ progress r (now (out .exit)) ≡ answerNext f (now (input .entry)) n (progress p (now (out .entry))) ⌝ }
@@ -324,7 +324,7 @@ fn fly_next(f: Flight, p: Flew, n: usize, input: &[u8], out: &mut [u8]) -> Flew
     let a = fly_frame(f, s, &input[taken..end], &mut out[put..]);
     let due = a.due;
     let after = a.supervisor;
-    Flew {
+    FramesAnswer {
         due: due,
         supervisor: after,
         taken: end,
@@ -333,11 +333,11 @@ fn fly_next(f: Flight, p: Flew, n: usize, input: &[u8], out: &mut [u8]) -> Flew
 }
 
 // Answers the frames of kind 3 from the front of the input, as long as one is due, whole, and out has room for its answer.
-pub fn fly_frames(f: Flight, s: Supervisor, input: &[u8], out: &mut [u8]) -> Flew
-    ensures { λ r. ⌜ r ≡ flew (flyFrames f s (now (input .entry)) (length (now (out .entry)))) ⌝ }
+pub fn fly_frames(f: Flight, s: Supervisor, input: &[u8], out: &mut [u8]) -> FramesAnswer
+    ensures { λ r. ⌜ r ≡ framesAnswer (flyFrames f s (now (input .entry)) (length (now (out .entry)))) ⌝ }
     ensures { λ _. ⌜ now (out .exit) ≡ frameWritten (flyFrames f s (now (input .entry)) (length (now (out .entry))) .written) (now (out .entry)) ⌝ }
 {
-    let mut p = Flew {
+    let mut p = FramesAnswer {
         due: Due::Telemetry,
         supervisor: s,
         taken: 0,
