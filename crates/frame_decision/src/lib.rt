@@ -1,9 +1,9 @@
 // Kind 4: a Decision in its frame of 95 bytes, read and written.
 ghost use mathlib.Core.Path.{_≡_};
 ghost use Prim.Native.Nat.{_<_};
-ghost use lib.ListN.{replicate};
 ghost use lib.Seq.{sets};
 ghost use Rattle.wire.specs.Frame.{roomFault, frameWritten};
+ghost use Rattle.wire.specs.Laid.{laid};
 ghost use Rattle.frame_decision.specs.Slots.{slotAt, slotsAt, slotValid, slotsValid, leSlot, leSlots};
 ghost use Rattle.frame_decision.specs.DecisionFrame.{estimateAt, decisionAt, decisionValid, blankDecision, refusedWith, readDecision, leEstimate, decisionFrame};
 use types::Action;
@@ -178,8 +178,7 @@ pub fn read_decision(s: &[u8]) -> DecisionRead
 // An absent request is three bytes of 0, whatever reason and action the slot holds. They stand there already.
 fn put_slot(s: &mut [u8], at: usize, x: Slot)
     requires { ⌜ at < 256 ⌝ }
-    requires { ⌜ sets (now s) at (replicate 3 0) ≡ now s ⌝ }
-    ensures { λ _. ⌜ now (s .exit) ≡ sets (now (s .entry)) at (leSlot x) ⌝ }
+    ensures { λ _. ⌜ now (s .exit) ≡ laid (now (s .entry)) at (leSlot x) ⌝ }
 {
     let reason = x.reason;
     let action = x.action;

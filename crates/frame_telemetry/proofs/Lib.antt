@@ -1,5 +1,4 @@
 -- The laws of a Telemetry frame.
 pub mod Checked
-pub mod Present
 pub mod Stamped
 pub mod Size

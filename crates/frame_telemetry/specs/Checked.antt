@@ -1,5 +1,5 @@
--- Readings tested and read at once: the reading where its bytes are in range, else Invalid. The tests are those of `telemetryTests`, reading by
--- reading. Assumes nothing.
+-- Readings tested and read at once: the reading, or Invalid for "flag or enum byte out of range; absent value not zero". The tests are those of
+-- `telemetryTests`, reading by reading (`by-reading`, proofs/Checked.antt). Assumes nothing.
 use Prim.Native.Nat.{ℕ, _+_}
 use mathlib.Core.List.{List, [], _∷_}
 use mathlib.Core.Bool.{Bool, cond, _&&_}
@@ -21,10 +21,11 @@ use Rattle.frame_telemetry.specs.declared.HeartbeatField.{HeartbeatField
 use Rattle.frame_telemetry.specs.declared.BatteryField.{BatteryField}
 use Rattle.frame_telemetry.specs.Readings.{fixAt, optionGpsAt, stampedF32At, stampedBoolAt, stampedLandedAt}
 
+-- Option<PositionSample> at byte 8
 unfoldable pub positionField : List ℕ → PositionField
 positionField s = cond (validOption s 8 28) (PositionField.Valid (optionPositionAt s 8)) PositionField.Invalid
 
--- a GPS sample that is present: its fix, and the two values inside it that may be absent
+-- Option<GpsSample> at byte 37; where it is present, its fix and the two values inside it that may be absent
 unfoldable pub sampleValid : List ℕ → Bool
 sampleValid s = allTrue (byteBelow s 42 3) (validOption s 43 1 ∷ validOption s 45 4 ∷ [])
 
@@ -37,6 +38,7 @@ gpsValid s = validOption s 37 12 && sampleValid s
 unfoldable pub gpsField : List ℕ → GpsField
 gpsField s = cond (gpsValid s) (GpsField.Valid (optionGpsAt s 37)) GpsField.Invalid
 
+-- Option<Stamped<f32>>, Option<Stamped<bool>>, Option<Stamped<LandedState>>, and the heartbeat's Option<u32>
 unfoldable pub stampedF32Field : List ℕ → ℕ → StampedF32Field
 stampedF32Field s i = cond (validOption s i 8) (StampedF32Field.Valid (stampedF32At s i)) StampedF32Field.Invalid
 

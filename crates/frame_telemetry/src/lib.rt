@@ -70,6 +70,7 @@ fn word(s: &[u8], at: usize) -> u32
     wire::quad(s[at], s[at + 1], s[at + 2], s[at + 3])
 }
 
+// The float of these bytes; three of them.
 fn real(s: &[u8], at: usize) -> f32
     requires { ⌜ at + 4 ≤ length (now s) ⌝ }
     ensures { λ r. ⌜ r ≡ f32At (now (s .entry)) at ⌝ }
@@ -179,6 +180,7 @@ fn position_field(s: &[u8]) -> PositionField
     }
 }
 
+// Whether the fix of a sample that is present, and the flags inside it, are in range.
 fn sample_valid(s: &[u8]) -> bool
     ensures { λ r. ⌜ r ≡ sampleValid (now (s .entry)) ⌝ }
 {

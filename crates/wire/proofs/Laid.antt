@@ -23,13 +23,19 @@ stored true m n b = laid m n b
 stored false m n b = sets m n b
 
 -- b over as many bytes of 0, after p and before r
-stored-middle : (k : Bool) (l : List ℕ) (i : ℕ) (p b r : List ℕ) → stored k (sets l i (p ++ (replicate (length b) 0 ++ r))) (i + length p) b ≡ sets l i (p ++ (b ++ r))
-stored-middle false l i p b r = over-middle l i p (replicate (length b) 0) b r (length-replicate (length b) 0)
-stored-middle true l i p b r = go (allZero b) refl
+set-middle : (l : List ℕ) (i : ℕ) (p b r : List ℕ) → sets (sets l i (p ++ (replicate (length b) 0 ++ r))) (i + length p) b ≡ sets l i (p ++ (b ++ r))
+set-middle l i p b r = over-middle l i p (replicate (length b) 0) b r (length-replicate (length b) 0)
+
+pub laid-middle : (l : List ℕ) (i : ℕ) (p b r : List ℕ) → laid (sets l i (p ++ (replicate (length b) 0 ++ r))) (i + length p) b ≡ sets l i (p ++ (b ++ r))
+laid-middle l i p b r = go (allZero b) refl
   where
     go : (z : Bool) → allZero b ≡ z → cond z (sets l i (p ++ (replicate (length b) 0 ++ r))) (sets (sets l i (p ++ (replicate (length b) 0 ++ r))) (i + length p) b) ≡ sets l i (p ++ (b ++ r))
     go true e = ap (λ (z : List ℕ). sets l i (p ++ (z ++ r))) (sym (zero-bytes b e))
-    go false e = over-middle l i p (replicate (length b) 0) b r (length-replicate (length b) 0)
+    go false e = set-middle l i p b r
+
+stored-middle : (k : Bool) (l : List ℕ) (i : ℕ) (p b r : List ℕ) → stored k (sets l i (p ++ (replicate (length b) 0 ++ r))) (i + length p) b ≡ sets l i (p ++ (b ++ r))
+stored-middle true l i p b r = laid-middle l i p b r
+stored-middle false l i p b r = set-middle l i p b r
 
 pub data Step : Type 0 where
   step : Bool → ℕ → List ℕ → Step

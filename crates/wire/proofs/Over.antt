@@ -3,7 +3,7 @@ use Prim.Native.Nat.{ℕ, suc, _+_, _<_}
 use mathlib.Core.Path.{_≡_, _∙_, ap, refl, sym}
 use mathlib.Core.List.{List, [], _∷_, _++_, append-nil}
 use native.Mathlib.Omega.{arith}
-use lib.ListN.{length, set}
+use lib.ListN.{length, set, replicate, length-replicate}
 use lib.Seq.{sets, set-set, set-comm}
 use Rattle.wire.proofs.Stores.{sets-append}
 
@@ -32,3 +32,12 @@ over-middle l i p xs ys r e =
 -- as many bytes over others
 pub over-all : (l : List ℕ) (i : ℕ) (xs ys : List ℕ) → length xs ≡ length ys → sets (sets l i xs) i ys ≡ sets l i ys
 over-all l i xs ys e = ap (λ (b : List ℕ). sets (sets l i b) i ys) (sym (append-nil xs)) ∙ over l i xs ys [] e ∙ ap (sets l i) (append-nil ys)
+
+-- a value that may be absent, stored at i over n bytes of 0 where it is present: the contracts of the calls, and which value it is
+module _ {O : Type 0} (bytes : O → List ℕ) (i n : ℕ) where
+  pub over-present : {m r : List ℕ} {o p : O} (l : List ℕ) → ((x : O) → length (bytes x) ≡ n) → m ≡ sets l i (replicate n 0) → r ≡ sets m i (bytes p) → o ≡ p → r ≡ sets l i (bytes o)
+  over-present {p = p} l h e f k =
+      f ∙ ap (λ (x : List ℕ). sets x i (bytes p)) e ∙ over-all l i (replicate n 0) (bytes p) (length-replicate n 0 ∙ sym (h p)) ∙ sym (ap (λ (x : O). sets l i (bytes x)) k)
+
+  pub over-absent : {r : List ℕ} {o p : O} (l : List ℕ) → bytes p ≡ replicate n 0 → r ≡ sets l i (replicate n 0) → o ≡ p → r ≡ sets l i (bytes o)
+  over-absent l h e k = e ∙ sym (ap (λ (x : O). sets l i (bytes x)) k ∙ ap (sets l i) h)

@@ -7,6 +7,7 @@ use lib.Dec.{eqb}
 use lib.ListN.{replicate}
 use lib.Seq.{sets}
 
+-- each byte is 0
 abbrev pub allZero : List ℕ → Bool
 allZero [] = true
 allZero (x ∷ xs) = eqb x 0 && allZero xs

@@ -1,6 +1,6 @@
 -- `frame_decision::put_slot` meets its contract. Assumes nothing.
 use Prim.Native.Nat.{_+_, suc}
-use mathlib.Core.Path.{_≡_, sym}
+use mathlib.Core.Path.{_≡_}
 use native.Mathlib.Omega.{arith}
 use borrow.Author.Needs.{needs}
 use Rattle.wire.specs.Fields.{leFlag, le8}
@@ -29,7 +29,7 @@ returns c =
 
 returns-2 : tie.Need-returns-2
 unfolding leSlot leFlag le8
-returns-2 c = simp (c .if1 .left) (sym (c .before .before .pre .1))
+returns-2 c = simp (c .if1 .left)
 
 pub put-slot-spec : {M : Type 1} → statement M
 put-slot-spec =

@@ -2,17 +2,18 @@
 use Prim.Native.Nat.{ℕ}
 use mathlib.Core.Path.{_≡_, _∙_, ap, refl}
 use mathlib.Core.List.{List, [], _∷_}
-use lib.ListN.{length, replicate}
+use lib.ListN.{length}
 use lib.Seq.{sets, length-sets}
 use denote.Ref.{now}
 use Rattle.wire.specs.Fields.{le8, leFlag, leBytes, le16, le32, leF32}
 use Rattle.wire.specs.Frame.{frameHead}
 use Rattle.wire.proofs.Laid.{zeroed}
-use Rattle.wire.proofs.Over.{over-all}
+use Rattle.wire.proofs.Over.{over-present}
 use Rattle.wire.proofs.Stores.{Piece, put, after, done, into, ran}
 use Rattle.options.specs.Options.{leOptionU32}
 use Rattle.options.specs.Position.{leVec3, leOptionPosition}
 use Rattle.options.specs.Enums.{leAction, leReason}
+use Rattle.triggers.specs.declared.TriggerState.{TriggerState}
 use Rattle.supervisor.specs.declared.Supervisor.{Supervisor}
 use Rattle.frame_state.specs.StateFrame.{leTimer, leLinks, leFence, leBattery, leInput, leTriggers, leArbiter, stateFrame}
 use borrow.Author.Needs.{needs}
@@ -37,10 +38,9 @@ flat : (l : List ℕ) (x : Supervisor) → after l (pieces x) ≡ sets l 0 (stat
 unfolding stateFrame frameHead leTriggers leLinks leFence leBattery leInput leTimer leArbiter leAction leReason leOptionU32 leOptionPosition leVec3 leF32 le8 le16 le32 leBytes leFlag
 flat l x = refl
 
--- the triggers over the zeros
-anew : {m r : List ℕ} (l : List ℕ) (x : Supervisor) → m ≡ sets l 4 (replicate 129 0) → r ≡ sets m 4 (leTriggers (x .triggers)) → r ≡ sets l 4 (leTriggers (x .triggers))
+wide : (t : TriggerState) → length (leTriggers t) ≡ 129
 unfolding leTriggers leLinks leFence leBattery leInput leTimer leOptionU32 le8 le32 leBytes leFlag
-anew l x e f = f ∙ ap (λ (k : List ℕ). sets k 4 (leTriggers (x .triggers))) e ∙ over-all l 4 (replicate 129 0) (leTriggers (x .triggers)) refl
+wide t = refl
 
 put-head-requires : tie.Need-put-head-requires
 put-head-requires c κs = search needs
@@ -91,7 +91,7 @@ returns c =
     let a = p1 .before .before .before .before .before .before .before .args in
     ran (now (a .s)) (pieces (a .x)) _
     (into (p1 .put-head .ensures)
-    (into (anew _ (a .x) (z .put-zeros .ensures) (p2 .put-triggers .ensures))
+    (into (over-present leTriggers 4 129 _ wide (z .put-zeros .ensures) (p2 .put-triggers .ensures) refl)
     (into (p3 .put-arbiter .ensures)
     (into (p4 .put-option-u32 .ensures)
     (into (p5 .put-option-position .ensures)
