@@ -1,147 +1,120 @@
--- The float that `root_guess` takes the bits of is no NaN: no step of it leaves the numbers without a sign. Assumes nothing.
-use mathlib.Core.Path.{_≡_, refl, sym, subst}
-use mathlib.Core.Bool.{Bool, true, false, not, cond}
-use Prim.Native.Nat.{ℕ, zero, suc, _+_, _-_, _*_, _/_, _%_, _^_, _≤_, _<_}
-use native.Mathlib.Nat.{le-refl, mul-le-mul, mul-le-mul-right, mul-pos, lt-irrefl}
+-- How `low_root` comes to at most the root of 128 * m and less than 10 below it: a first guess on a line, then the mean of the guess and 128 * m divided by it. Assumes nothing.
+use mathlib.Core.Path.{_≡_, ap, _∙_}
+use mathlib.Core.Bool.{Bool, true, false, not}
+use Prim.Native.Nat.{ℕ, _+_, _-_, _*_, _/_, _^_, _≤_, _<_}
+use native.Mathlib.Nat.{lt-of-not-le, mul-le-mul, mul-le-mul-right, mul-comm, mul-assoc, mul-add, add-mul, one-mul, div-add-mod', mod-lt}
 use native.Mathlib.Omega.{arith}
-use lib.Dec.{T, eqb, eqb→eq, ltb, ltb→lt}
-use lib.Pow.{pow-pos, pow-mono}
-use lib.Ieee.{Float, nan, inf, fin, binary32, up, down, isNan, odd, units, round, sum, add, mul, div, le, ofBits}
-use lib.Ieee.Fits.{round-is}
-use lib.Ieee.Exact.{HasValue}
-use lib.Ieee.Order.{le-of-values}
-use lib.Ieee.Positive.{positive, positive-of-value, between, cross→le, mul-mono}
-use Rattle.float32.proofs.Patterns.{high-value, least-le}
+use lib.Dec.{T, leb, leb→le, nleb→lt}
+use Rattle.float32.specs.Radicand.{MeanNear}
+use Rattle.float32.proofs.Squares.{sq-sum}
 
--- zero, a number or an infinity, without a sign
-abbrev plus : Float → Bool
-plus nan = false
-plus (inf s) = not s
-plus (fin s m e) = not s
+-- ---- two numbers, their product and their sum's square
+apart : (x y : ℕ) → x ≤ y → ((x + y) * (x + y) ≡ 4 * (x * y) + (y - x) * (y - x)) × (2 * (x * y) ≤ x * x + y * y)
+apart x y h =
+    let d = y - x in
+    let e : y ≡ x + d = omega arith in
+    let f : x * y ≡ x * x + x * d = ap (λ (z : ℕ). x * z) e ∙ mul-add x x d in
+    let g : y * y ≡ x * x + 2 * (x * d) + d * d = ap (λ (z : ℕ). z * z) e ∙ sq-sum x d in
+    (omega (arith, sq-sum x y), omega arith)
 
-pub plus-no-nan : (x : Float) → T (plus x) → T (not (isNan x))
-unfolding isNan
-plus-no-nan nan h = absurd h
-plus-no-nan (inf s) h = tt
-plus-no-nan (fin s m e) h = tt
-
-value-plus : (x : Float) (a c : ℕ) → HasValue x false a c → T (plus x)
-value-plus nan a c v = absurd v
-value-plus (inf s) a c v = absurd v
-value-plus (fin s m e) a c v = subst (λ (t : Bool). T (not t)) (sym (v .0)) tt
-
--- ---- the operations
-odd-plus : (d q k l : ℕ) → T (plus (odd d false q k l))
-unfolding odd
-odd-plus d zero k l = tt
-odd-plus d (suc q) k l = tt
-
-either-plus : (b : Bool) (x y : Float) → T (plus x) → T (plus y) → T (plus (cond b x y))
-either-plus true x y h k = h
-either-plus false x y h k = k
-
-units-plus : (q k : ℕ) → T (plus (units binary32 false q k))
-unfolding units
-units-plus q k = either-plus (ltb (q * 2 ^ k) (2 ^ 277)) (odd 25 false q k 149) (inf false) (odd-plus 25 q k 149) tt
-
-round-plus : (a c : ℕ) → T (plus (round binary32 false a c))
-round-plus a c = subst (λ (x : Float). T (plus x)) (sym (round-is binary32 false a c)) (units-plus _ _)
-
-nonzero-plus : (m : ℕ) (x : Float) → 0 < m → T (plus x) → T (plus (cond (eqb m 0) nan x))
-nonzero-plus m x h p = go (eqb m 0) (eqb→eq m 0)
+either-way : (x y : ℕ) {C : Type 0} → (x ≤ y → C) → (y ≤ x → C) → C
+either-way x y {C} f g = go (leb x y) (leb→le x y) (nleb→lt x y)
   where
-    go : (b : Bool) → (T b → m ≡ 0) → T (plus (cond b nan x))
-    go true e = absurd (lt-irrefl 0 (subst (λ (z : ℕ). 0 < z) (e tt) h))
-    go false e = p
+    go : (b : Bool) → (T b → x ≤ y) → (T (not b) → y < x) → C
+    go true a c = f (a tt)
+    go false a c = g (let h = c tt in omega arith)
 
-add-plus : (x y : Float) → T (plus x) → T (plus y) → T (plus (add binary32 x y))
-unfolding add sum
-add-plus nan y h k = absurd h
-add-plus (inf true) y h k = absurd h
-add-plus (fin true m e) y h k = absurd h
-add-plus (inf false) nan h k = absurd k
-add-plus (inf false) (inf true) h k = absurd k
-add-plus (inf false) (inf false) h k = tt
-add-plus (inf false) (fin t n d) h k = tt
-add-plus (fin false m e) nan h k = absurd k
-add-plus (fin false m e) (inf t) h k = k
-add-plus (fin false m e) (fin true n d) h k = absurd k
-add-plus (fin false m e) (fin false n d) h k = round-plus (m * up e * down d + n * up d * down e) (down e * down d)
+-- the middle of two squares is at least the product
+pub middle : (x y : ℕ) → 2 * (x * y) ≤ x * x + y * y
+middle x y = either-way x y (λ (h : x ≤ y). apart x y h .1) (λ (h : y ≤ x). omega (arith, apart y x h .1, mul-comm x y))
 
-div-plus : (x y : Float) → T (positive x) → T (plus y) → T (plus (div binary32 x y))
-unfolding div
-div-plus nan y h k = absurd h
-div-plus (inf s) y h k = absurd h
-div-plus (fin true m e) y h k = absurd h
-div-plus (fin false m e) nan h k = absurd k
-div-plus (fin false m e) (inf true) h k = absurd k
-div-plus (fin false m e) (inf false) h k = tt
-div-plus (fin false m e) (fin true n d) h k = absurd k
-div-plus (fin false m e) (fin false n d) h k = either-plus (eqb n 0) _ _ (nonzero-plus m (inf false) (ltb→lt 0 m h) tt) (round-plus (m * up e * down d) (n * up d * down e))
+-- two numbers that differ by at most l
+close : (x y l : ℕ) → x ≤ y + l → y ≤ x + l → (x + y) * (x + y) ≤ 4 * (x * y) + l * l
+close x y l h k = either-way x y (λ (g : x ≤ y). rise x y g k) (λ (g : y ≤ x). turn (rise y x g h))
+  where
+    rise : (x y : ℕ) → x ≤ y → y ≤ x + l → (x + y) * (x + y) ≤ 4 * (x * y) + l * l
+    rise x y g k =
+        let s : y - x ≤ l = omega arith in
+        omega (arith, apart x y g .0, mul-le-mul s s)
 
-mul-plus : (x y : Float) → T (positive x) → T (plus y) → T (plus (mul binary32 x y))
-unfolding mul
-mul-plus nan y h k = absurd h
-mul-plus (inf s) y h k = absurd h
-mul-plus (fin true m e) y h k = absurd h
-mul-plus (fin false m e) nan h k = absurd k
-mul-plus (fin false m e) (inf true) h k = absurd k
-mul-plus (fin false m e) (inf false) h k = nonzero-plus m (inf false) (ltb→lt 0 m h) tt
-mul-plus (fin false m e) (fin true n d) h k = absurd k
-mul-plus (fin false m e) (fin false n d) h k = round-plus (m * up e * (n * up d)) (down e * down d)
+    turn : (y + x) * (y + x) ≤ 4 * (y * x) + l * l → (x + y) * (x + y) ≤ 4 * (x * y) + l * l
+    turn z = omega (arith, sq-sum x y, sq-sum y x, mul-comm x y)
 
--- ---- a quarter of a normal number is above zero and finite
-positive-quarter : T (positive (ofBits binary32 0x3e80_0000))
-unfolding ofBits
-positive-quarter = tt
+-- ---- Heron's step
+divided : (v z : ℕ) → 0 < z → (v / z * z ≤ v) × (v < v / z * z + z)
+divided v z h = (omega (arith, div-add-mod' v z), omega (arith, div-add-mod' v z, mod-lt v h))
 
-quarter-of-least : T (positive (mul binary32 (ofBits binary32 0x3e80_0000) (ofBits binary32 0x80_0000)))
-unfolding ofBits mul round
-quarter-of-least = tt
+pub quotient-small : (m z : ℕ) → m < 2 ^ 25 → 2 ^ 12 ≤ z → 8 * m / z < 2 ^ 17
+quotient-small m z h k = lt-of-not-le (λ (w : 131072 ≤ 8 * m / z). clash (8 * m / z) (divided (8 * m) z (omega arith) .0) (mul-le-mul-right z w))
+  where
+    clash : (q : ℕ) → q * z ≤ 8 * m → 131072 * z ≤ q * z → ⊥
+    clash q a b = omega arith
 
-quarter-of-most : T (positive (mul binary32 (ofBits binary32 0x3e80_0000) (ofBits binary32 0x7f7f_ffff)))
-unfolding ofBits mul round
-quarter-of-most = tt
+-- where v is within l * z of 4 * z * z, v / z is within l of 4 * z
+differ : (v z l : ℕ) → 0 < z → 4 * (z * z) ≤ v + l * z → v ≤ 4 * (z * z) + l * z → (4 * z ≤ v / z + l) × (v / z ≤ 4 * z + l)
+differ v z l p h k =
+    let q = v / z in
+    let d = divided v z p in
+    let a : 4 * z < q + l + 1 = lt-of-not-le (λ (w : q + l + 1 ≤ 4 * z). low q (d .1) w) in
+    let b : q < 4 * z + l + 1 = lt-of-not-le (λ (w : 4 * z + l + 1 ≤ q). high q (d .0) w) in
+    (omega arith, omega arith)
+  where
+    three : (a b : ℕ) → (a + b + 1) * z ≡ a * z + b * z + z
+    three a b = add-mul (a + b) 1 z ∙ ap (λ (y : ℕ). y + 1 * z) (add-mul a b z) ∙ ap (λ (y : ℕ). a * z + b * z + y) (one-mul z)
 
-normal-positive : (b : ℕ) → 2 ^ 23 ≤ b → b < 255 * 2 ^ 23 → T (positive (ofBits binary32 b))
-normal-positive b l h = positive-of-value (ofBits binary32 b) _ (2 ^ 149) (high-value b l h) (mul-pos (omega arith) (pow-pos (b / 2 ^ 23 - 1)))
+    low : (q : ℕ) → v < q * z + z → q + l + 1 ≤ 4 * z → ⊥
+    low q b w = omega (arith, mul-le-mul-right z w, three q l, mul-assoc 4 z z)
 
-most-value : HasValue (ofBits binary32 0x7f7f_ffff) false (0xff_ffff * 2 ^ 253) (2 ^ 149)
-unfolding ofBits
-most-value = (refl, refl)
+    high : (q : ℕ) → q * z ≤ v → 4 * z + l + 1 ≤ q → ⊥
+    high q b w = omega (arith, mul-le-mul-right z w, three (4 * z) l, mul-assoc 4 z z)
 
-le-most : (b : ℕ) → 2 ^ 23 ≤ b → b < 255 * 2 ^ 23 → T (le (ofBits binary32 b) (ofBits binary32 0x7f7f_ffff))
-le-most b l h =
-    let m : 2 ^ 23 + b % 2 ^ 23 ≤ 0xff_ffff = omega arith in
-    let k : b / 2 ^ 23 - 1 ≤ 253 = omega arith in
-    le-of-values (ofBits binary32 b) (ofBits binary32 0x7f7f_ffff) ((2 ^ 23 + b % 2 ^ 23) * 2 ^ (b / 2 ^ 23 - 1)) (2 ^ 149) (0xff_ffff * 2 ^ 253) (2 ^ 149) (pow-pos 149) (pow-pos 149) (high-value b l h) most-value
-    (mul-le-mul-right (2 ^ 149) (mul-le-mul m (pow-mono k)))
+pub mean : (m z l : ℕ) → 9 ≤ z → 4 * (z * z) ≤ 8 * m + l * z → 8 * m ≤ 4 * (z * z) + l * z → l * l + 81 + 18 * l ≤ 144 * z → MeanNear m z
+unfolding MeanNear
+mean m z l h a b room =
+    let p : 0 < z = omega arith in
+    go (8 * m / z) (divided (8 * m) z p .0) (differ (8 * m) z l p a b)
+  where
+    go : (q : ℕ) → q * z ≤ 8 * m → (4 * z ≤ q + l) × (q ≤ 4 * z + l) → (4 * z + q - 9) * (4 * z + q - 9) ≤ 128 * m
+    go q b d =
+        let w = 4 * z + q - 9 in
+        let s : 4 * z + q ≡ w + 9 = omega arith in
+        omega (arith, close (4 * z) q l (d .0) (d .1), ap (λ (x : ℕ). x * x) s ∙ sq-sum w 9, mul-assoc 4 z q, mul-comm z q)
 
-pub quarter-positive : (b : ℕ) → 2 ^ 23 ≤ b → b < 255 * 2 ^ 23 → T (positive (mul binary32 (ofBits binary32 0x3e80_0000) (ofBits binary32 b)))
-quarter-positive b l h =
-    let q = ofBits binary32 0x3e80_0000 in
-    let x = ofBits binary32 b in
-    let lo = ofBits binary32 0x80_0000 in
-    let hi = ofBits binary32 0x7f7f_ffff in
-    let same : T (le q q) = cross→le q q positive-quarter positive-quarter (le-refl _) in
-    let p = normal-positive b l h in
-    let p-lo = normal-positive 0x80_0000 (omega arith) (omega arith) in
-    let p-hi = normal-positive 0x7f7f_ffff (omega arith) (omega arith) in
-    between (mul binary32 q lo) (mul binary32 q x) (mul binary32 q hi) quarter-of-least quarter-of-most
-    (mul-mono binary32 q q lo x positive-quarter positive-quarter p-lo p same (least-le b l h))
-    (mul-mono binary32 q q x hi positive-quarter positive-quarter p p-hi same (le-most b l h))
+-- what is left of the mean is at most the root, and less than 10 below it
+pub cut : (m z : ℕ) → 9 ≤ z → MeanNear m z → (4 * z + 8 * m / z - 9) * (4 * z + 8 * m / z - 9) ≤ 128 * m
+    × (128 * m < (4 * z + 8 * m / z - 9 + 10) * (4 * z + 8 * m / z - 9 + 10))
+unfolding MeanNear
+cut m z h near = (near, go (8 * m / z) (4 * z + 8 * m / z - 9 + 10) (divided (8 * m) z (omega arith) .1) (omega arith))
+  where
+    go : (q y : ℕ) → 8 * m < q * z + z → y ≡ 4 * z + (q + 1) → 128 * m < y * y
+    go q y b e =
+        let p : (q + 1) * z ≡ q * z + z = add-mul q 1 z ∙ ap (λ (x : ℕ). q * z + x) (one-mul z) in
+        omega (arith, ap (λ (x : ℕ). x * x) e ∙ sq-sum (4 * z) (q + 1), middle (4 * z) (q + 1), mul-assoc 4 z (q + 1), mul-comm z (q + 1))
 
--- ---- the two steps
-pub first-plus : (b : ℕ) → 2 ^ 23 ≤ b → b < 255 * 2 ^ 23 → T (plus (ofBits binary32 (b / 2 + 0x1f3b_6000)))
-first-plus b l h = value-plus (ofBits binary32 (b / 2 + 0x1f3b_6000)) _ (2 ^ 149) (high-value (b / 2 + 0x1f3b_6000) (omega arith) (omega arith))
+-- ---- the two lines
+abbrev pub Guessed : ℕ → ℕ → Type 0
+Guessed m z = (2 ^ 12 ≤ z) × (z < 2 ^ 14) × MeanNear m z
 
-positive-weight : T (positive (ofBits binary32 0x3eff_f195))
-unfolding ofBits
-positive-weight = tt
+-- a number between lo and lo + w has a square below the line through the two ends'
+under : (lo w g : ℕ) → lo ≤ g → g ≤ lo + w → g * g + lo * w ≤ lo * lo + 2 * (lo * (g - lo)) + w * g
+under lo w g h k =
+    let d = g - lo in
+    let e : g ≡ lo + d = omega arith in
+    let s : d ≤ w = omega arith in
+    omega (arith, ap (λ (x : ℕ). x * x) e ∙ sq-sum lo d, mul-le-mul-right d s, ap (λ (x : ℕ). w * x) e ∙ mul-add w lo d, mul-comm lo w)
 
-step-plus : (q y : Float) → T (positive q) → T (plus y) → T (plus (add binary32 y (div binary32 q y)))
-step-plus q y p h = add-plus y (div binary32 q y) h (div-plus q y p h)
+pub single-guess : (t z : ℕ) → 2 ^ 23 ≤ t → t < 2 ^ 24 → z ≡ (3 * t + 21175 * 2048) / 16384 → Guessed t z
+single-guess t z lo hi e =
+    let l : 4182 ≤ z = omega arith in
+    let h : z ≤ 4182 + 1536 = omega arith in
+    let a : 4 * (z * z) ≤ 8 * t + 700 * z = omega (arith, under 4182 1536 z l h) in
+    let b : 8 * t ≤ 4 * (z * z) + 700 * z = omega (arith, middle 5374 z) in
+    (omega arith, omega arith, mean t z 700 (omega arith) a b (omega arith))
 
-pub guess-plus : (q y : Float) → T (positive q) → T (plus y)
-    → T (plus (add binary32 (mul binary32 (ofBits binary32 0x3eff_f195) (add binary32 y (div binary32 q y))) (div binary32 q (mul binary32 (ofBits binary32 0x3eff_f195) (add binary32 y (div binary32 q y))))))
-guess-plus q y p h = step-plus q (mul binary32 (ofBits binary32 0x3eff_f195) (add binary32 y (div binary32 q y))) p (mul-plus (ofBits binary32 0x3eff_f195) (add binary32 y (div binary32 q y)) positive-weight (step-plus q y p h))
+pub double-guess : (t z : ℕ) → t < 2 ^ 23 → z ≡ (5 * t + 45880 * 2048) / 16384 → Guessed (2 * t + 2 ^ 24) z
+double-guess t z hi e =
+    let l : 5735 ≤ z = omega arith in
+    let h : z ≤ 5735 + 2560 = omega arith in
+    let a : 4 * (z * z) ≤ 8 * (2 * t + 2 ^ 24) + 850 * z = omega (arith, under 5735 2560 z l h) in
+    let b : 8 * (2 * t + 2 ^ 24) ≤ 4 * (z * z) + 850 * z = omega (arith, middle 6447 z) in
+    (omega arith, omega arith, mean (2 * t + 2 ^ 24) z 850 (omega arith) a b (omega arith))

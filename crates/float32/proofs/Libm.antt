@@ -147,7 +147,3 @@ fmax-drops-right (fin s m e) = refl
 pub fmax-of-zeros : (fmax (ofBits binary32 0x8000_0000) (ofBits binary32 0) ≡ ofBits binary32 0) × (fmax (ofBits binary32 0) (ofBits binary32 0x8000_0000) ≡ ofBits binary32 0)
 unfolding fmax isNan isNegative lt ofBits
 fmax-of-zeros = (refl, refl)
-
-pub fabs-of-minus-zero : fabs (ofBits binary32 0x8000_0000) ≡ ofBits binary32 0
-unfolding fabs ofBits
-fabs-of-minus-zero = refl

@@ -13,6 +13,7 @@ use lib.Ieee.Fits.{round-is, down-pos}
 use lib.Ieee.Exact.{HasValue, units-val}
 use lib.Ieee.Nearest.{closest, closest-same}
 use Rattle.float32.specs.Sqrt.{isqrt, roundedRoot, squareRoot}
+use Rattle.float32.specs.Radicand.{radicandOf}
 use Rattle.float32.proofs.Patterns.{high-root}
 use Rattle.float32.proofs.Squares.{Near, isqrt-cut, below-middle, above-middle, root-low, root-high, near-low, near-high}
 
@@ -164,29 +165,55 @@ handed q g lo hi = go (g % 2) (mod-lt g {m = 2} (zero-lt-suc 1))
         subst (λ (y : ℕ). (2 ^ 23 ≤ q * y) × (q * y ≤ 2 * q)) (sym e) (omega arith, omega arith)
 
 -- the same from a normal number's bits
-pub doubled : (b : ℕ) → b % 2 ^ 24 < 2 ^ 23 → 2 * (b % 2 ^ 24) + 2 ^ 24 ≡ (b % 2 ^ 23 + 2 ^ 23) * (2 - (b / 2 ^ 23 + 50) % 2)
+pub radicand-bounds : (b : ℕ) → (2 ^ 23 ≤ radicandOf b) × (radicandOf b ≤ 2 ^ 25 - 2)
+unfolding radicandOf
+radicand-bounds b =
+    let h = handed (b % 2 ^ 23 + 2 ^ 23) (b / 2 ^ 23 + 50) (omega arith) (omega arith) in
+    (h .0, omega arith)
+
+-- so the nearest root has at most 24 digits
+pub root-digits : (b p : ℕ) → Near (radicandOf b * 2 ^ 23) p → p < 2 ^ 24
+root-digits b p k = near-high (radicandOf b * 2 ^ 23) p (omega (arith, radicand-bounds b .1)) (k .0)
+
+pub doubled : (b : ℕ) → b % 2 ^ 24 < 2 ^ 23 → 2 * (b % 2 ^ 24) + 2 ^ 24 ≡ radicandOf b
+unfolding radicandOf
 doubled b h =
     let e : (b / 2 ^ 23 + 50) % 2 ≡ 0 = omega arith in
     subst (λ (y : ℕ). 2 * (b % 2 ^ 24) + 2 ^ 24 ≡ (b % 2 ^ 23 + 2 ^ 23) * (2 - y)) (sym e) (omega arith)
 
-pub single : (b : ℕ) → 2 ^ 23 ≤ b % 2 ^ 24 → b % 2 ^ 24 ≡ (b % 2 ^ 23 + 2 ^ 23) * (2 - (b / 2 ^ 23 + 50) % 2)
+pub single : (b : ℕ) → 2 ^ 23 ≤ b % 2 ^ 24 → b % 2 ^ 24 ≡ radicandOf b
+unfolding radicandOf
 single b h =
     let e : (b / 2 ^ 23 + 50) % 2 ≡ 1 = omega arith in
     subst (λ (y : ℕ). b % 2 ^ 24 ≡ (b % 2 ^ 23 + 2 ^ 23) * (2 - y)) (sym e) (omega arith)
 
+-- the bits that `root_of` hands over have the digits q and the parity of g
+pub moved : (q g : ℕ) → 2 ^ 23 ≤ q → q < 2 ^ 24 → 28 ≤ g → radicandOf (q + (g - 3) * 8388608) ≡ q * (2 - g % 2)
+unfolding radicandOf
+moved q g lo hi h =
+    let b = q + (g - 3) * 8388608 in
+    let d : b % 2 ^ 23 + 2 ^ 23 ≡ q = omega arith in
+    let f : b / 2 ^ 23 ≡ g - 2 = omega arith in
+    let e : (b / 2 ^ 23 + 50) % 2 ≡ g % 2 = ap (λ (y : ℕ). (y + 50) % 2) f ∙ even-apart g h in
+    ap (λ (y : ℕ). y * (2 - (b / 2 ^ 23 + 50) % 2)) d ∙ ap (λ (y : ℕ). q * (2 - y)) e
+  where
+    even-apart : (g : ℕ) → 28 ≤ g → (g - 2 + 50) % 2 ≡ g % 2
+    even-apart g h = omega arith
+
 pub root-of-bits : (q g p : ℕ) → (2 ^ 23 ≤ q) × (q < 2 ^ 24) × (28 ≤ g) × (g ≤ 304) → (p * p < q * (2 - g % 2) * 2 ^ 23 + p) × (q * (2 - g % 2) * 2 ^ 23 ≤ p * p + p)
-    → ((g + 75) / 2 * 8388608 + p ≡ toBits binary32 (roundedRoot (q * 2 ^ g))) × (p < 2 ^ 24)
+    → (g + 75) / 2 * 8388608 + p ≡ toBits binary32 (roundedRoot (q * 2 ^ g))
 root-of-bits q g p h k =
     let d = handed q g (h .0) (h .1) in
     let n = q * (2 - g % 2) * 2 ^ 23 in
     let e : (g + 75) / 2 * 8388608 + p ≡ (50 + (g - 25) / 2) * 2 ^ 23 + p = omega arith in
-    (e ∙ sym (ap (λ (y : ℕ). toBits binary32 (roundedRoot y)) (scale q g (h .2)) ∙ root-bits n p ((g - 25) / 2) (omega arith) (omega arith) (k .0) (k .1) (omega arith)), near-high n p (omega arith) (k .0))
+    e ∙ sym (ap (λ (y : ℕ). toBits binary32 (roundedRoot y)) (scale q g (h .2)) ∙ root-bits n p ((g - 25) / 2) (omega arith) (omega arith) (k .0) (k .1) (omega arith))
 
-pub normal-root-bits : (b m p : ℕ) → (2 ^ 23 ≤ b) × (b < 255 * 2 ^ 23) → m ≡ (b % 2 ^ 23 + 2 ^ 23) * (2 - (b / 2 ^ 23 + 50) % 2) → Near (m * 2 ^ 23) p
-    → ((b / 2 + 0x1f40_0000) / 8388608 * 8388608 + p ≡ toBits binary32 (squareRoot (ofBits binary32 b))) × (p < 2 ^ 24)
-normal-root-bits b m p h e k =
+pub normal-root-bits : (b p : ℕ) → (2 ^ 23 ≤ b) × (b < 255 * 2 ^ 23) → Near (radicandOf b * 2 ^ 23) p
+    → (b + 0x3e80_0000) / 16777216 * 8388608 + p ≡ toBits binary32 (squareRoot (ofBits binary32 b))
+unfolding radicandOf
+normal-root-bits b p h k =
     let q = b % 2 ^ 23 + 2 ^ 23 in
     let g = b / 2 ^ 23 + 50 in
-    let r = root-of-bits q g p (omega arith, omega arith, omega arith, omega arith) (subst (λ (y : ℕ). Near (y * 2 ^ 23) p) e k) in
-    let low : (b / 2 + 0x1f40_0000) / 8388608 * 8388608 ≡ (g + 75) / 2 * 8388608 = omega arith in
-    (ap (λ (y : ℕ). y + p) low ∙ r .0 ∙ ap (toBits binary32) (sym (high-root b (h .0) (h .1))), r .1)
+    let r = root-of-bits q g p (omega arith, omega arith, omega arith, omega arith) k in
+    let low : (b + 0x3e80_0000) / 16777216 * 8388608 ≡ (g + 75) / 2 * 8388608 = omega arith in
+    ap (λ (y : ℕ). y + p) low ∙ r ∙ ap (toBits binary32) (sym (high-root b (h .0) (h .1)))

@@ -1,8 +1,7 @@
 -- Squares of whole numbers: the definition's whole root, and how `nearest_root` finds the nearest one. Assumes nothing.
 use mathlib.Core.Path.{_≡_, refl, sym, ap, subst, _∙_}
 use Prim.Native.Nat.{ℕ, zero, suc, _+_, _-_, _*_, _/_, _%_, _^_, _≤_, _<_}
-use native.Mathlib.Nat.{le-trans, le-of-eq, lt-of-lt-of-le, lt-of-le-of-lt, lt-of-not-le, not-le-of-lt, mul-le-mul, mul-comm, mul-assoc, mul-left-comm, mul-add, add-mul, add-assoc, add-comm, zero-lt-suc, pow-succ', pow-le-pow-left, mul-mul-mul-comm, mul-le-mul-right, mul-lt-mul-of-pos-right, mul-pos, one-mul, le-of-suc-le-suc}
-use mathlib.Core.Logic.{_⊎_, inl, inr}
+use native.Mathlib.Nat.{le-trans, le-of-eq, lt-of-lt-of-le, lt-of-le-of-lt, lt-of-not-le, not-le-of-lt, mul-le-mul, mul-comm, mul-assoc, mul-left-comm, mul-add, add-mul, add-assoc, add-comm, pow-succ', pow-le-pow-left, mul-mul-mul-comm, mul-le-mul-right, mul-lt-mul-of-pos-right, mul-pos, one-mul, le-of-suc-le-suc, div-add-mod', mod-lt}
 use native.Mathlib.Numerals.{add-one}
 use native.Mathlib.Omega.{arith}
 use mathlib.Core.Bool.{Bool, true, false, not, cond}
@@ -64,72 +63,47 @@ isqrt-cut n = isqrtBelow-cut (size n) n (lt-of-lt-of-le (size-lt n) (four-of-two
 pub sq-sum : (a b : ℕ) → (a + b) * (a + b) ≡ a * a + 2 * (a * b) + b * b
 sq-sum a b = simp (mul-add, add-mul, mul-comm, add-assoc, add-comm) (omega arith)
 
--- ---- the numbers that `lowered` and `raised` pass
-pub square-fits : (p : ℕ) → p < 2 ^ 32 → p * p + 2 * p < 2 ^ 64
-square-fits p h = omega (arith, mul-le-mul-right p (top p h))
-  where
-    top : (p : ℕ) → p < 2 ^ 32 → p ≤ 4294967295
-    top p h = omega arith
-
-pub root-pos : (n r : ℕ) → 0 < n → n + r ≤ r * r → 0 < r
-root-pos n zero h k = omega arith
-root-pos n (suc r) h k = zero-lt-suc r
-
-pub root-small : (n r : ℕ) → n < 2 ^ 48 → r * r < n + r → r < 2 ^ 25
-root-small n r h k = lt-of-not-le (λ (g : 33554432 ≤ r). clash g (mul-le-mul-right r g))
-  where
-    clash : 33554432 ≤ r → 33554432 * r ≤ r * r → ⊥
-    clash g l = omega arith
-
-pub next-root : (n r : ℕ) → r * r + r < n → (r + 1) * (r + 1) < n + (r + 1)
-next-root n r h = omega (arith, sq-sum r 1)
-
--- ---- a guess p that is within 1 of n's root is put right by at most one
+-- ---- the whole number that is nearest to n's root
 abbrev pub Near : ℕ → ℕ → Type 0
 Near n p = (p * p < n + p) × (n ≤ p * p + p)
-
-pub over-is : (n p o : ℕ) → n < 2 ^ 48 → p < 2 ^ 32 → o < 4 * p → (o + n) % 2 ^ 64 ≡ p * (p + 2) → o + n ≡ p * p + 2 * p
-over-is n p o h k l e =
-    let a : p * (p + 2) ≡ p * p + p * 2 = mul-add p p 2 in
-    omega arith
-
-pub guess-small : (n p o : ℕ) → n < 2 ^ 48 → o < 4 * p → o + n ≡ p * p + 2 * p → (0 < p) × (p < 2 ^ 25)
-guess-small n p o h l e = (omega arith, lt-of-not-le (λ (g : 33554432 ≤ p). clash g (mul-le-mul-right p g)))
-  where
-    clash : 33554432 ≤ p → 33554432 * p ≤ p * p → ⊥
-    clash g k = omega arith
-
-pub one-at-most : {A B : Type 0} {d : ℕ} → (A × (d ≡ 1)) ⊎ (B × (d ≡ 0)) → d ≤ 1
-one-at-most (inl (a, e)) = omega arith
-one-at-most (inr (b, e)) = omega arith
-
-one-less : (n q : ℕ) → 0 < n → q * q ≤ n → q * q < n + q
-one-less n zero h k = omega arith
-one-less n (suc q) h k = omega arith
-
-pub put-right : (n p o u d : ℕ) → 0 < n → o < 4 * p → o + n ≡ p * p + 2 * p → ((o < p) × (u ≡ 1)) ⊎ ((p ≤ o) × (u ≡ 0)) → ((3 * p ≤ o) × (d ≡ 1)) ⊎ ((o < 3 * p) × (d ≡ 0)) → Near n (p + u - d)
-put-right n p o u d z l e (inl (a, b)) (inr (c, f)) =
-    let g : p + u - d ≡ p + 1 = omega arith in
-    subst (Near n) (sym g) (omega (arith, sq-sum p 1), omega (arith, sq-sum p 1))
-put-right n p o u d z l e (inl (a, b)) (inl (c, f)) = absurd (clash a c)
-  where
-    clash : o < p → 3 * p ≤ o → ⊥
-    clash a c = omega arith
-put-right n p o u d z l e (inr (a, b)) (inr (c, f)) =
-    let g : p + u - d ≡ p = omega arith in
-    subst (Near n) (sym g) (omega arith, omega arith)
-put-right n p o u d z l e (inr (a, b)) (inl (c, f)) =
-    let q = p - 1 in
-    let g : p + u - d ≡ q = omega arith in
-    let v : p ≡ q + 1 = omega arith in
-    let w : p * p ≡ q * q + 2 * (q * 1) + 1 * 1 = ap (λ (x : ℕ). x * x) v ∙ sq-sum q 1 in
-    subst (Near n) (sym g) (one-less n q z (omega arith), omega arith)
 
 pub settle : (n q s v : ℕ) → n + s ≡ q * q + v → s ≤ v → v < s + 2 * q + 1 → q < v - s → ((q + 1) * (q + 1) < n + (q + 1)) × (n ≤ (q + 1) * (q + 1) + (q + 1))
 settle n q s v e l h k = (omega (arith, sq-sum q 1), omega (arith, sq-sum q 1))
 
 pub settle-low : (n q s v : ℕ) → n + s ≡ q * q + v → s ≤ v → 0 < q → v - s ≤ q → (q * q < n + q) × (n ≤ q * q + q)
 settle-low n q s v e l h k = (omega arith, omega arith)
+
+-- ---- what `nearest_root` has of v = 128 * m, once r is at most its root and less than 10 below it
+pub upper-digits : (m r : ℕ) → 2 ^ 23 ≤ m → m < 2 ^ 25 → r * r ≤ 128 * m → 128 * m < (r + 10) * (r + 10) → (32758 < r) × (r < 65536) × (128 * m ≤ r * r + 20 * r + 99)
+upper-digits m r lo hi a b =
+    let l : 32768 < r + 10 = sq-lt 32768 (r + 10) (omega arith) in
+    let h : r < 65536 = sq-lt r 65536 (omega arith) in
+    (omega arith, omega arith, omega (arith, sq-sum r 10))
+
+pub lower-digits : (d r : ℕ) → 32758 < r → d ≤ 20 * r + 99 → (128 * d / r ≤ 2560) × (128 * d / r * (128 * d / r) ≤ 6553600) × (128 * d % r < r) × (128 * d / r * r + 128 * d % r ≡ 128 * d)
+lower-digits d r l h =
+    let t = 128 * d / r in
+    let z : 0 < r = omega arith in
+    let e = div-add-mod' (128 * d) r in
+    let u = mod-lt (128 * d) {m = r} z in
+    let k : t ≤ 2560 = most t (128 * d % r) e in
+    (k, mul-le-mul k k, u, e)
+  where
+    most : (t u : ℕ) → t * r + u ≡ 128 * d → t ≤ 2560
+    most t u e = let f : t < 2561 = lt-of-not-le (λ (g : 2561 ≤ t). clash (mul-le-mul-right r g)) in omega arith
+      where
+        clash : 2561 * r ≤ t * r → ⊥
+        clash g = omega arith
+
+-- how far n is from p's square
+pub apart-by : (m r d t u : ℕ) → 128 * m ≡ r * r + d → t * r + u ≡ 128 * d → m * 2 ^ 23 + t * t ≡ (256 * r + t) * (256 * r + t) + 512 * u
+apart-by m r d t u e f =
+    let x : 256 * r * (256 * r) ≡ 65536 * (r * r) = simp (mul-assoc, mul-left-comm) (omega arith) in
+    let y : 256 * r * t ≡ 256 * (t * r) = mul-assoc 256 r t ∙ ap (λ (z : ℕ). 256 * z) (mul-comm r t) in
+    omega (arith, sq-sum (256 * r) t)
+
+pub stays : (n p s v : ℕ) → n + s ≡ p * p + v → s < p → v ≤ s + p → Near n p
+stays n p s v e h k = (omega arith, omega arith)
 
 -- ---- a root of 4 n E E that lies beside p of n: the two middles next to p, times E, are on its two sides
 regroup : (a e : ℕ) → a * e * (a * e) ≡ a * a * (e * e)

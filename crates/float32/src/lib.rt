@@ -1,11 +1,11 @@
 // Libm's part: the functions on binary32 that the Rust takes from libm and from core.
 ghost use mathlib.Core.Path.{_≡_};
 ghost use mathlib.Core.Bool.{false};
-ghost use mathlib.Core.Logic.{_⊎_};
-ghost use Prim.Native.Nat.{_+_, _-_, _*_, _/_, _%_, _^_, _≤_, _<_};
+ghost use Prim.Native.Nat.{_+_, _*_, _^_, _≤_, _<_};
 ghost use lib.Ieee.{inf, binary32, ofBits, toBits};
 ghost use Rattle.float32.specs.Libm.{isFinite, fabs, fmax};
 ghost use Rattle.float32.specs.Sqrt.{roundedRoot, squareRoot};
+ghost use Rattle.float32.specs.Radicand.{radicandOf, MeanNear};
 
 // +infinity.
 pub fn infinity() -> f32
@@ -70,86 +70,59 @@ pub fn fmaxf(x: f32, y: f32) -> f32
     if y != y { x } else { y }
 }
 
-// 1 where a is below b, else 0.
-fn below(a: u64, b: u64) -> u32
-    ensures { λ r. ⌜ ((a < b) × (r ≡ 1)) ⊎ ((b ≤ a) × (r ≡ 0)) ⌝ }
+// The 24 digits of the number with the bits b, doubled where its exponent is even.
+fn radicand(b: u32) -> u32
+    ensures { λ r. ⌜ r ≡ radicandOf b ⌝ }
 {
-    if a < b { 1 } else { 0 }
+    let t = b % 0x100_0000;
+    if t < 0x80_0000 { 2 * t + 0x100_0000 } else { t }
 }
 
-// 1 where a is at least b, else 0.
-fn at_least(a: u64, b: u64) -> u32
-    ensures { λ r. ⌜ ((b ≤ a) × (r ≡ 1)) ⊎ ((a < b) × (r ≡ 0)) ⌝ }
+// An eighth of a first guess at the root of v = 128 * radicand(b): a line along the digits, one for
+// each parity of the exponent. The mean of the guess and v divided by it is at most 9 above the root.
+fn first_guess(b: u32) -> u32
+    ensures { λ z. ⌜ (2 ^ 12 ≤ z) × (z < 2 ^ 14) × MeanNear (radicandOf b) z ⌝ }
 {
-    if a < b { 0 } else { 1 }
-}
-
-// p, taken down until it is less than a half above n's root.
-fn lowered(n: u64, p: u64) -> u64
-    requires { ⌜ (0 < n) × (n < 2 ^ 48) × (p < 2 ^ 32) ⌝ }
-    ensures { λ r. ⌜ (r * r < n + r) × (r < 2 ^ 32) ⌝ }
-{
-    let mut r = p;
-    while n + r <= r * r {
-        r -= 1;
-    }
-    r
-}
-
-// The nearest whole number to n's root, from a p that is less than a half above it.
-fn raised(n: u64, p: u64) -> u64
-    requires { ⌜ (n < 2 ^ 48) × (p * p < n + p) × (p < 2 ^ 32) ⌝ }
-    ensures { λ r. ⌜ (r * r < n + r) × (n ≤ r * r + r) × (r < 2 ^ 32) ⌝ }
-{
-    let mut r = p;
-    while r * r + r < n {
-        r += 1;
-    }
-    r
-}
-
-// The whole number that is nearest to the root of n = m * 2^23, from any guess p. A guess within 1
-// of the root, where p * p + 2 * p - n is at least 0 and below 4 * p, is put right by at most one.
-fn nearest_root(m: u32, guess: u32) -> u32
-    requires { ⌜ (2 ^ 23 ≤ m) × (m < 2 ^ 25) ⌝ }
-    ensures { λ p. ⌜ (p * p < m * 2 ^ 23 + p) × (m * 2 ^ 23 ≤ p * p + p) ⌝ }
-{
-    let n = m as u64 * 0x80_0000;
-    let p = guess as u64;
-    let over = std::num::wrapping_sub_u64(p * (p + 2), n);
-    if over < 4 * p {
-        let down = at_least(over, 3 * p);
-        guess + below(over, p) - down
+    let t = b % 0x100_0000;
+    if t < 0x80_0000 {
+        (5 * t + 45_880 * 2048) / 0x4000
     } else {
-        raised(n, lowered(n, p)) as u32
+        (3 * t + 21_175 * 2048) / 0x4000
     }
 }
 
-// A guess at the bits of the root of the number with the bits b. Nothing rests on it, since
-// `nearest_root` puts any guess right. Half of b has half its exponent. Two steps of Newton's method
-// follow, on half the root; 0.49989 is 1 / 2 less the first step's mean error.
-fn root_guess(b: u32) -> u32
-    requires { ⌜ (2 ^ 23 ≤ b) × (b < 255 * 2 ^ 23) ⌝ }
+// The mean of such a guess 8 * z and 128 * m divided by it, less 9: at most the root of 128 * m, and
+// less than 10 below it.
+fn low_root(m: u32, z: u32) -> u32
+    requires { ⌜ (m < 2 ^ 25) × (2 ^ 12 ≤ z) × (z < 2 ^ 14) × MeanNear m z ⌝ }
+    ensures { λ r. ⌜ (r * r ≤ 128 * m) × (128 * m < (r + 10) * (r + 10)) ⌝ }
 {
-    let quarter = 0.25 * f32::from_bits(b);
-    let first = f32::from_bits(b / 2 + 0x1f3b_6000);
-    let second = 0.49989 * (first + quarter / first);
-    f32::to_bits(second + quarter / second)
+    4 * z + 8 * m / z - 9
 }
 
-// The bits of the root of q * 2^g / 2^200, for a q of 24 digits and the g of a subnormal number. The
-// guess is at the root of that times 2^48, a normal number.
+// The whole number that is nearest to the root of n = radicand(b) * 2^23, which is 2^16 * v. First
+// 256 * r, from the r of `low_root`; then t, what is left, n - (256 * r)^2, divided by 512 * r. Their
+// sum p is the nearest or one less: n is p * p + 512 * u - t * t, so p + 1 where that is above p * p + p.
+fn nearest_root(b: u32) -> u32
+    ensures { λ p. ⌜ (p * p < radicandOf b * 2 ^ 23 + p) × (radicandOf b * 2 ^ 23 ≤ p * p + p) ⌝ }
+{
+    let m = radicand(b);
+    let r = low_root(m, first_guess(b));
+    let v = 128 * m;
+    let left = 128 * (v - r * r);
+    let t = left / r;
+    let u = left % r;
+    let p = 256 * r + t;
+    if t * t + p < 512 * u { p + 1 } else { p }
+}
+
+// The bits of the root of q * 2^g / 2^200, for a q of 24 digits and the g of a subnormal number. Its
+// digits are those of the root of 2^48 times that, a normal number.
 fn root_of(q: u32, g: u32) -> u32
     requires { ⌜ (2 ^ 23 ≤ q) × (q < 2 ^ 24) × (28 ≤ g) × (g ≤ 51) ⌝ }
     ensures { λ r. ⌜ (r ≡ toBits binary32 (roundedRoot (q * 2 ^ g))) × (r < 255 * 2 ^ 23) ⌝ }
 {
-    let low = (g + 75) / 2 * 0x80_0000;
-    let guess = root_guess(q + (g - 3) * 0x80_0000);
-    low
-        + nearest_root(
-            q * (2 - g % 2),
-            std::num::wrapping_sub_u32(guess, low + 0xc00_0000),
-        )
+    (g + 75) / 2 * 0x80_0000 + nearest_root(q + (g - 3) * 0x80_0000)
 }
 
 // The bits of the root of the subnormal number with the bits b, which is first shifted up by its
@@ -162,21 +135,12 @@ fn subnormal_root(b: u32) -> u32
     root_of(b << z, 51 - z)
 }
 
-// The 24 digits of the number with the bits b, doubled where its exponent is even.
-fn radicand(b: u32) -> u32
-    ensures { λ r. ⌜ r ≡ (b % 2 ^ 23 + 2 ^ 23) * (2 - (b / 2 ^ 23 + 50) % 2) ⌝ }
-{
-    let t = b % 0x100_0000;
-    if t < 0x80_0000 { 2 * t + 0x100_0000 } else { t }
-}
-
 // The bits of the root of the normal number with the bits b.
 fn normal_root(b: u32) -> u32
     requires { ⌜ (2 ^ 23 ≤ b) × (b < 255 * 2 ^ 23) ⌝ }
     ensures { λ r. ⌜ (r ≡ toBits binary32 (squareRoot (ofBits binary32 b))) × (r < 255 * 2 ^ 23) ⌝ }
 {
-    let low = (b / 2 + 0x1f40_0000) / 0x80_0000 * 0x80_0000;
-    low + nearest_root(radicand(b), std::num::wrapping_sub_u32(root_guess(b), low))
+    (b + 0x3e80_0000) / 0x100_0000 * 0x80_0000 + nearest_root(b)
 }
 
 // The square root: the binary32 number that is nearest to the exact one. A zero keeps its sign,
