@@ -1,4 +1,4 @@
-/* The flight supervisor's two entries, for an autopilot's host in C.
+/* The flight supervisor's entries, for an autopilot's host in C.
  *
  * Link target/staticlib/libfailsafe.a (made by `rt staticlib failsafe`). The library keeps nothing between
  * calls, allocates nothing and calls nothing back: all state is in the buffer that the host keeps.
@@ -48,7 +48,7 @@
  * Config is packed by tools/frames.py, and written field by field in examples/host.c. The state's bytes are the
  * library's own: a host keeps them and hands them back.
  *
- * Both entries answer 0 on success. Any other answer is a refusal, and then no byte of state or output has
+ * Every entry answers 0 on success. Any other answer is a refusal, and then no byte of state or output has
  * changed:
  *
  *   1         a frame is short: under 2 bytes, or fewer than 2 + length
@@ -100,6 +100,14 @@ uint32_t failsafe_step(const uint8_t *config, size_t config_len,
 /* A fresh state in the first 186 bytes of state; later bytes stay. failsafe_step takes a state slice of
  * exactly 186 bytes. */
 uint32_t failsafe_fresh(uint8_t *state, size_t state_len);
+
+/* A test load that everyone can make: the next telemetry frame of a trial flight in the first 106 bytes of output; later bytes
+ * stay. The generator is 9 bytes: x (4), now_ms (4), and a byte that is 0 before the first frame and 1 after it; the call
+ * rewrites it. A host starts with the seed and five zeros. Refusals, in this order, with no byte of either buffer
+ * changed: 1 for a generator of fewer bytes, 3 for one of more, 4 for a last byte above 1, 5 for an output under 106
+ * bytes. It is a load, not a flight: README.md says what it reaches. */
+#define FAILSAFE_GENERATOR_BYTES 9
+uint32_t failsafe_trial(uint8_t *generator, size_t generator_len, uint8_t *output, size_t output_len);
 
 #ifdef __cplusplus
 }

@@ -5,6 +5,7 @@ ghost use Rattle.flight.specs.Flight.{stepFlight};
 ghost use Rattle.frame_state.specs.StateFrame.{readState};
 ghost use Rattle.frame_telemetry.specs.TelemetryFrame.{readTelemetry};
 ghost use Rattle.failsafe.specs.Entry.{written, afterTelemetry, afterState, stepCall, freshCall};
+ghost use Rattle.trial.specs.Call.{trialCall};
 use flight::Flight;
 use frame_state::StateRead;
 use frame_telemetry::TelemetryRead;
@@ -91,4 +92,13 @@ pub extern "C" fn failsafe_fresh(state: &mut [u8]) -> u32
 {
     let n = frame_state::write_fresh(state);
     n as u32
+}
+
+#[no_mangle]
+pub extern "C" fn failsafe_trial(generator: &mut [u8], output: &mut [u8]) -> u32
+    ensures { λ r. ⌜ r ≡ trialCall (now (generator .entry)) (now (output .entry)) .number ⌝ }
+    ensures { λ _. ⌜ now (generator .exit) ≡ trialCall (now (generator .entry)) (now (output .entry)) .generator ⌝ }
+    ensures { λ _. ⌜ now (output .exit) ≡ trialCall (now (generator .entry)) (now (output .entry)) .output ⌝ }
+{
+    trial::trial(generator, output)
 }

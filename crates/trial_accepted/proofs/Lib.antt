@@ -1,0 +1,2 @@
+-- Every frame made is accepted.
+pub mod Accepted

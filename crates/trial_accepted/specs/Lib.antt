@@ -1,0 +1,2 @@
+-- What is claimed of the frames of trial flights.
+pub mod Accepted
