@@ -109,6 +109,29 @@ uint32_t failsafe_fresh(uint8_t *state, size_t state_len);
 #define FAILSAFE_GENERATOR_BYTES 9
 uint32_t failsafe_trial(uint8_t *generator, size_t generator_len, uint8_t *output, size_t output_len);
 
+/* The energy of a return in whole numbers, which can be checked on paper (docs/ENERGY.md). It takes no part in a
+ * step. `input` is thirteen numbers, each a signed 32-bit number, little-endian:
+ *
+ *   place   number                          limits                    unit
+ *   0, 4    position north, east            -10,000,000 to 10,000,000 mm
+ *   8       position altitude               -100,000 to 2,000,000     mm
+ *   12, 16  home north, east                -10,000,000 to 10,000,000 mm
+ *   20      return altitude                 0 to 2,000,000            mm
+ *   24..32  power of climb, cruise, descent 0 to 10,000,000           mW
+ *   36      wind                            0 to 10,000               thousandths
+ *   40..48  speed of climb, cruise, descent 1 to 100,000              mm/s
+ *
+ * `output` is nine unsigned 64-bit numbers, little-endian, in its first 72 bytes; later bytes stay: home distance (mm,
+ * rounded up) and the remainder of its whole root; climb, cruise and descent, each a quotient (mJ) and its remainder;
+ * the total (mJ), which is at least the exact sum for that distance and less than 3 above it.
+ *
+ * Answers 0, or with no byte changed: 1, input under 52 bytes; 3, input over 52; 36, a number outside its limits;
+ * 37, a speed of 0; 5, output under 72 bytes. The first in this order. */
+#define FAILSAFE_WHOLE_ENERGY_INPUT_BYTES 52
+#define FAILSAFE_WHOLE_ENERGY_BYTES 72
+uint32_t failsafe_whole_energy(const uint8_t *input, size_t input_len,
+                               uint8_t *output, size_t output_len);
+
 #ifdef __cplusplus
 }
 #endif

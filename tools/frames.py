@@ -6,6 +6,13 @@
   frames.py show [FILE] [--input FILE]  shows frames as text, a line for each (FILE: default standard input;
                                         --input: the frames or the flight that were stepped: the n-th Decision
                                         is then shown with the time of the n-th telemetry)
+  frames.py energy NUMBERS.json         works out the energy of a return in whole numbers, a line for each step, so
+  frames.py energy NAME=NUMBER ..       that it can be checked on paper (docs/ENERGY.md). All thirteen are wanted:
+     position_north_mm, position_east_mm, home_north_mm, home_east_mm   from -10000000 to 10000000
+     position_altitude_mm   from -100000 to 2000000        return_altitude_mm   from 0 to 2000000
+     power_climb_mw, power_cruise_mw, power_descent_mw   from 0 to 10000000
+     wind_thousandths   from 0 to 10000
+     speed_climb_mm_s, speed_cruise_mm_s, speed_descent_mm_s   from 1 to 100000
 
 A flight is an object with these members, each of which may be left out:
   "config"     fields of Config that differ from the defaults, as {"recovery_hold_ms": 6000}
@@ -23,6 +30,7 @@ A flight is an object with these members, each of which may be left out:
 Exit status 1: bad input, with what is wrong and where. 2: bad usage.
 """
 import json
+import math
 import struct
 import sys
 
@@ -424,6 +432,97 @@ def show(stream, times):
         print(line)
 
 
+# ---- the energy of a return in whole numbers
+
+# In the order of the entry's input: name, lowest, highest.
+ENERGY_NUMBERS = [
+    ("position_north_mm", -10000000, 10000000), ("position_east_mm", -10000000, 10000000), ("position_altitude_mm", -100000, 2000000),
+    ("home_north_mm", -10000000, 10000000), ("home_east_mm", -10000000, 10000000), ("return_altitude_mm", 0, 2000000),
+    ("power_climb_mw", 0, 10000000), ("power_cruise_mw", 0, 10000000), ("power_descent_mw", 0, 10000000),
+    ("wind_thousandths", 0, 10000), ("speed_climb_mm_s", 0, 100000), ("speed_cruise_mm_s", 0, 100000), ("speed_descent_mm_s", 0, 100000),
+]
+
+
+def energy_numbers(words):
+    """The thirteen numbers, from a file or from words NAME=NUMBER."""
+    names = [name for name, _, _ in ENERGY_NUMBERS]
+    if len(words) == 1 and "=" not in words[0]:
+        return members(read_flight(words[0]), "energy", names)
+    given = {}
+    for word in words:
+        name, sign, value = word.partition("=")
+        if name not in names:
+            raise Bad(f"energy.{name}: there is no such number; there are {', '.join(names)}")
+        if name in given:
+            raise Bad(f"energy.{name}: it is given twice")
+        try:
+            given[name] = int(value)
+        except ValueError:
+            raise Bad(f"energy.{name}: a whole number is wanted, not {json.dumps(value)}") from None
+    return given
+
+
+def checked_numbers(given):
+    for name, low, high in ENERGY_NUMBERS:
+        value = given.get(name)
+        if value is None:
+            raise Bad(f"energy.{name}: it is missing")
+        if isinstance(value, bool) or not isinstance(value, int):
+            raise Bad(f"energy.{name}: a whole number is wanted, not {json.dumps(value)}")
+        if not low <= value <= high:
+            raise Bad(f"energy.{name}: {value} is outside its limits, {low} to {high} (refusal 36)")
+    for name, _, _ in ENERGY_NUMBERS[10:]:
+        if given[name] == 0:
+            raise Bad(f"energy.{name}: a speed of 0 (refusal 37)")
+    return [given[name] for name, _, _ in ENERGY_NUMBERS]
+
+
+def spaced(n):
+    """A number in groups of three digits."""
+    return f"{n:,}"
+
+
+def show_leg(name, factors, divisors):
+    """A leg as a line; what it adds to the total."""
+    energy = divisor = 1
+    for n in factors:
+        energy *= n
+    for n in divisors:
+        divisor *= n
+    quotient, remainder = divmod(energy, divisor)
+    by = " x ".join(spaced(n) for n in divisors)
+    if len(divisors) > 1:
+        by = f"({by} = {spaced(divisor)})"
+    print(f"{name + ':':16}{' x '.join(spaced(n) for n in factors)} = {spaced(energy)}; divided by {by}: {spaced(quotient)}, remainder {spaced(remainder)}")
+    return quotient, 1 if remainder else 0
+
+
+def less(a, b):
+    """a - b as it is written on paper."""
+    return f"{spaced(a)} - {spaced(b) if b >= 0 else f'({spaced(b)})'}"
+
+
+def energy_command(words):
+    (north, east, altitude, home_north, home_east, back, climb_mw, cruise_mw, descent_mw, wind,
+     climb_speed, cruise_speed, descent_speed) = checked_numbers(energy_numbers(words))
+    square = (north - home_north) ** 2 + (east - home_east) ** 2
+    root = math.isqrt(square)
+    rest = square - root * root
+    distance = root + (1 if rest else 0)
+    climb, descent = max(0, back - altitude), max(altitude, back)
+    print(f"{'north:':16}{less(north, home_north)} = {spaced(north - home_north)} mm")
+    print(f"{'east:':16}{less(east, home_east)} = {spaced(east - home_east)} mm")
+    print(f"{'home distance:':16}the squares' sum is {spaced(square)}; its whole root {spaced(root)}, remainder {spaced(rest)}; so {spaced(distance)} mm")
+    print(f"{'climb height:':16}{less(back, altitude)} = {spaced(back - altitude)}{'' if climb == back - altitude else ', below 0'}; so {spaced(climb)} mm")
+    print(f"{'descent height:':16}the larger of {spaced(altitude)} and {spaced(back)}; so {spaced(descent)} mm")
+    legs = [show_leg("climb", [climb, climb_mw], [climb_speed]),
+            show_leg("cruise", [distance, cruise_mw, wind], [cruise_speed, 1000]),
+            show_leg("descent", [descent, descent_mw], [descent_speed])]
+    ones = sum(one for _, one in legs)
+    total = sum(quotient for quotient, _ in legs) + ones
+    print(f"{'total:':16}{' + '.join(spaced(quotient) for quotient, _ in legs)} + {ones} for remainders = {spaced(total)} mJ")
+
+
 # ---- the command
 
 
@@ -493,6 +592,8 @@ def main(words):
         command = pack_command
     elif words[:1] == ["show"] and flags <= 1 and words[-1] != "--input" and len(words) <= 2 + 2 * flags:
         command = show_command
+    elif words[:1] == ["energy"] and len(words) > 1:
+        command = energy_command
     else:
         print(__doc__, file=sys.stderr)
         return 2

@@ -1,9 +1,10 @@
-// The two entries for the autopilot's C host: include/failsafe.h describes them.
+// The entries for the autopilot's C host: include/failsafe.h describes them.
 ghost use mathlib.Core.Path.{_≡_};
 ghost use lib.ListN.{length};
 ghost use Rattle.flight.specs.Flight.{stepFlight};
 ghost use Rattle.frame_state.specs.StateFrame.{readState};
 ghost use Rattle.frame_telemetry.specs.TelemetryFrame.{readTelemetry};
+ghost use Rattle.whole_energy.specs.Call.{energyCall};
 ghost use Rattle.failsafe.specs.Entry.{written, afterTelemetry, afterState, stepCall, freshCall};
 ghost use Rattle.trial.specs.Call.{trialCall};
 use flight::Flight;
@@ -101,4 +102,12 @@ pub extern "C" fn failsafe_trial(generator: &mut [u8], output: &mut [u8]) -> u32
     ensures { λ _. ⌜ now (output .exit) ≡ trialCall (now (generator .entry)) (now (output .entry)) .output ⌝ }
 {
     trial::trial(generator, output)
+}
+
+#[no_mangle]
+pub extern "C" fn failsafe_whole_energy(input: &[u8], output: &mut [u8]) -> u32
+    ensures { λ r. ⌜ r ≡ energyCall (now (input .entry)) (now (output .entry)) .number ⌝ }
+    ensures { λ _. ⌜ now (output .exit) ≡ energyCall (now (input .entry)) (now (output .entry)) .output ⌝ }
+{
+    whole_energy::whole_energy(input, output)
 }
