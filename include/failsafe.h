@@ -8,7 +8,7 @@
  *
  *   buffer         kind   bytes               content
  *   config         1      246                 Config
- *   fence          2      13 + 8 * corners    corner count, min altitude, max altitude, corners north, east
+ *   fence          2, 8   13 + 8 * corners    corner count, min altitude, max altitude, corners north, east
  *   telemetry      3      106                 Telemetry
  *   output         4      95 or more          Decision
  *   state          5      186                 the supervisor's state
@@ -59,6 +59,8 @@
  *   5         output under 95 bytes (for failsafe_fresh: state under 186)
  *   10 to 18  the fence: too few corners, too many, not finite, out of envelope, duplicate, collinear, not
  *             convex, area too small, bad altitudes
+ *   33        the fence, of kind 8 alone, after 16 and before 17: going round the sides, the sign of the north
+ *             step changes more than twice, as of a star (kind 2 takes one)
  *   20 to 28  the configuration: home outside the fence, return altitude outside it, not finite, speed not
  *             positive, negative power, cell count, capacity, order of thresholds, duration out of range
  *

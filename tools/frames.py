@@ -6,6 +6,8 @@
   frames.py show [FILE] [--input FILE]  shows frames as text, a line for each (FILE: default standard input;
                                         --input: the frames or the flight that were stepped: the n-th Decision
                                         is then shown with the time of the n-th telemetry)
+  frames.py draw INPUT [FILE]           draws the fence of a flight or of frames (INPUT: - for standard input) as SVG,
+                                        north up, with the number of each side, in the order in which the fence is held
   frames.py energy NUMBERS.json         works out the energy of a return in whole numbers, a line for each step, so
   frames.py energy NAME=NUMBER ..       that it can be checked on paper (docs/ENERGY.md). All thirteen are wanted:
      position_north_mm, position_east_mm, home_north_mm, home_east_mm   from -10000000 to 10000000
@@ -16,7 +18,8 @@
 
 A flight is an object with these members, each of which may be left out:
   "config"     fields of Config that differ from the defaults, as {"recovery_hold_ms": 6000}
-  "fence"      {"min_alt_m": 5, "max_alt_m": 120, "corners": [[north, east], ...]}; left out: the default fence
+  "fence"      {"kind": 2, "min_alt_m": 5, "max_alt_m": 120, "corners": [[north, east], ...]}; left out: the default
+               fence. Kind 8 asks one rule more: going round the sides, the north steps change their sign twice
   "telemetry"  a list of readings; each has "now_ms", and what is left out of it is absent:
      "position"          {"pos": [n, e, d], "vel": [n, e, d]}
      "gps"               {"fix": "None" | "Fix2D" | "Fix3D", "sats": 14, "hdop": 0.9}
@@ -34,8 +37,9 @@ import math
 import struct
 import sys
 
-CONFIG, FENCE, TELEMETRY, DECISION, STATE, REFUSAL = 1, 2, 3, 4, 5, 255
-KINDS = {CONFIG: "Config", FENCE: "Fence", TELEMETRY: "Telemetry", DECISION: "Decision", STATE: "State", REFUSAL: "Refusal"}
+CONFIG, FENCE, TELEMETRY, DECISION, STATE, FENCE_ONCE_ROUND, REFUSAL = 1, 2, 3, 4, 5, 8, 255
+FENCES = (FENCE, FENCE_ONCE_ROUND)
+KINDS = {CONFIG: "Config", FENCE: "Fence", FENCE_ONCE_ROUND: "Fence of kind 8", TELEMETRY: "Telemetry", DECISION: "Decision", STATE: "State", REFUSAL: "Refusal"}
 ACTIONS = ["Nominal", "Warn", "Hold", "ReturnToLaunch", "Land"]
 REASONS = ["None", "ClockFault", "InvalidInput", "StaleBattery", "GcsLinkLost", "RcLost", "GpsDegraded", "GpsLost",
            "EkfUnhealthy", "PositionInvalid", "FenceApproach", "FenceBreach", "AltitudeMax", "AltitudeMin", "BatteryWarn",
@@ -48,6 +52,7 @@ REFUSALS = {
     14: "DuplicateVertex", 15: "CollinearEdge", 16: "NotConvex", 17: "AreaTooSmall", 18: "BadAltitudes",
     20: "HomeOutsideFence", 21: "RtlAltOutsideFence", 22: "NonFiniteParam", 23: "NonPositiveSpeed", 24: "NegativePower",
     25: "BadCellCount", 26: "BadCapacity", 27: "BadThresholdOrder", 28: "DurationOutOfRange",
+    33: "NotOnceRound",
 }
 # Config in declared order: its name, its type (u8, f32, flag or u32), its default.
 CONFIG_FIELDS = [
@@ -207,8 +212,15 @@ def config_body(value):
     return b"".join(pack[kind](value.get(name, default), f"config.{name}") for name, kind, default in CONFIG_FIELDS)
 
 
+def fence_frame(value):
+    value = members(value, "fence", ["kind", "min_alt_m", "max_alt_m", "corners"])
+    kind = value.get("kind", FENCE)
+    if isinstance(kind, bool) or kind not in FENCES:
+        raise Bad(f"fence.kind: 2 or 8 is wanted, not {json.dumps(kind)}")
+    return frame(kind, fence_body(value))
+
+
 def fence_body(value):
-    value = members(value, "fence", ["min_alt_m", "max_alt_m", "corners"])
     corners = value.get("corners", DEFAULT_CORNERS)
     if not isinstance(corners, list) or len(corners) > 255:
         raise Bad("fence.corners: a list of at most 255 corners is wanted (a fence has 3 to 16)")
@@ -231,7 +243,7 @@ def pack_flight(flight):
     readings = flight.get("telemetry", [])
     if not isinstance(readings, list):
         raise Bad("telemetry: a list of readings is wanted")
-    frames = [frame(CONFIG, config_body(flight.get("config", {}))), frame(FENCE, fence_body(flight.get("fence", {})))]
+    frames = [frame(CONFIG, config_body(flight.get("config", {}))), fence_frame(flight.get("fence", {}))]
     frames += [frame(TELEMETRY, telemetry_body(value, f"telemetry[{k}]")) for k, value in enumerate(readings)]
     return b"".join(frames)
 
@@ -312,7 +324,7 @@ def show_config(body):
 def show_fence(body):
     count, low, high = body.u8(), body.f32(), body.f32()
     corners = [numbers([body.f32(), body.f32()]) for _ in range(count)]
-    return f"Fence: {number(low)} to {number(high)} m, {count} corners {' '.join(corners)}".rstrip()
+    return f"{KINDS[body.kind]}: {number(low)} to {number(high)} m, {count} corners {' '.join(corners)}".rstrip()
 
 
 def show_telemetry(body):
@@ -424,7 +436,7 @@ def show(stream, times):
                 refusal = struct.unpack("<H", body.take(2))[0]
                 line = f"Refusal {refusal}: {REFUSALS.get(refusal, 'no number of document 01')}"
             else:
-                shows = {CONFIG: show_config, FENCE: show_fence, TELEMETRY: show_telemetry, STATE: show_state}
+                shows = {CONFIG: show_config, FENCE: show_fence, FENCE_ONCE_ROUND: show_fence, TELEMETRY: show_telemetry, STATE: show_state}
                 line = shows[kind](body)
             body.end()
         except Bad as bad:
@@ -523,6 +535,50 @@ def energy_command(words):
     print(f"{'total:':16}{' + '.join(spaced(quotient) for quotient, _ in legs)} + {ones} for remainders = {spaced(total)} mJ")
 
 
+# ---- drawing
+
+
+def float32(x):
+    return struct.unpack("<f", struct.pack("<f", x))[0]
+
+
+def held(corners):
+    """The corners as they are held: reversed where their area, summed in 32-bit floats, is not above 0."""
+    area = 0.0
+    for (n, e), (n1, e1) in zip(corners, corners[1:] + corners[:1]):
+        area = float32(area + float32(float32(n * e1) - float32(n1 * e)))
+    return corners if area > 0 else corners[::-1]
+
+
+def draw_fence(body):
+    """A fence as SVG: its sides from corner to corner, and each side's number a little beside its middle."""
+    count, low, high = body.u8(), body.f32(), body.f32()
+    sent = [(body.f32(), body.f32()) for _ in range(count)]
+    if count < 3 or not all(abs(x) <= 10000 for corner in sent for x in corner):
+        raise Bad("a fence of 3 corners or more, each within ±10,000 m, can be drawn")
+    corners = held(sent)
+    south, north = min(n for n, _ in corners), max(n for n, _ in corners)
+    west, east = min(e for _, e in corners), max(e for _, e in corners)
+    size = max(north - south, east - west, 1.0)
+
+    def place(n, e):
+        return 40 + 520 * (e - west) / size, 40 + 520 * (north - n) / size
+
+    points = [place(n, e) for n, e in corners]
+    width, height = 80 + 520 * (east - west) / size, 110 + 520 * (north - south) / size
+    lines = [f'<svg xmlns="http://www.w3.org/2000/svg" width="{width:.0f}" height="{height:.0f}" font-family="sans-serif">',
+             '<rect width="100%" height="100%" fill="white"/>']
+    for side, ((x, y), (x1, y1)) in enumerate(zip(points, points[1:] + points[:1])):
+        long = max(((x1 - x) ** 2 + (y1 - y) ** 2) ** 0.5, 1.0)
+        at_x, at_y = (x + x1) / 2 - 12 * (y1 - y) / long, (y + y1) / 2 + 12 * (x1 - x) / long
+        lines.append(f'<line x1="{x:.1f}" y1="{y:.1f}" x2="{x1:.1f}" y2="{y1:.1f}" stroke="black"/>')
+        lines.append(f'<text x="{at_x:.1f}" y="{at_y:.1f}" font-size="14" text-anchor="middle" dominant-baseline="central">{side}</text>')
+    lines += [f'<circle cx="{x:.1f}" cy="{y:.1f}" r="3"/>' for x, y in points]
+    told = f"{KINDS[body.kind]}, {number(low)} to {number(high)} m; north {number(south)} to {number(north)}, east {number(west)} to {number(east)}"
+    lines.append(f'<text x="8" y="{height - 12:.0f}" font-size="12">{told}</text>')
+    return "\n".join(lines + ["</svg>", ""])
+
+
 # ---- the command
 
 
@@ -545,8 +601,12 @@ def written_float(text):
 
 
 def read_flight(path):
+    return parse_flight(path, read_bytes(path))
+
+
+def parse_flight(path, bytes_):
     try:
-        return json.loads(read_bytes(path).decode(), parse_float=written_float)
+        return json.loads(bytes_.decode(), parse_float=written_float)
     except UnicodeDecodeError:
         raise Bad(f"{path}: not a text file") from None
     except json.JSONDecodeError as error:
@@ -557,24 +617,46 @@ def read_flight(path):
         raise Bad(f"{path}: a number has too many digits") from None
 
 
-def times_of(path):
-    """The clock readings of a flight, from its JSON or its frames."""
+def frames_of(path):
+    """The frames of a flight, from its JSON or its frames."""
     bytes_ = read_bytes(path)
     if bytes_[:1] in (b"{", b" ", b"\n"):
-        bytes_ = pack_flight(read_flight(path))
-    return [struct.unpack_from("<I", body)[0] for _, kind, body in split(bytes_) if kind == TELEMETRY and len(body) >= 4]
+        bytes_ = pack_flight(parse_flight(path, bytes_))
+    return split(bytes_)
+
+
+def times_of(path):
+    """The clock readings of a flight."""
+    return [struct.unpack_from("<I", body)[0] for _, kind, body in frames_of(path) if kind == TELEMETRY and len(body) >= 4]
 
 
 def pack_command(words):
-    packed = pack_flight(read_flight(words[0]))
-    if len(words) == 2:
+    write_bytes(pack_flight(read_flight(words[0])), words[1:])
+
+
+def write_bytes(bytes_, to):
+    """Into the file that is named, or to standard output."""
+    if to:
         try:
-            with open(words[1], "wb") as file:
-                file.write(packed)
+            with open(to[0], "wb") as file:
+                file.write(bytes_)
         except OSError as error:
-            raise Bad(f"{words[1]}: {error.strerror}") from None
+            raise Bad(f"{to[0]}: {error.strerror}") from None
     else:
-        sys.stdout.buffer.write(packed)
+        sys.stdout.buffer.write(bytes_)
+
+
+def draw_command(words):
+    for at, kind, bytes_ in frames_of(words[0]):
+        if kind in FENCES:
+            body = Body(kind, bytes_)
+            try:
+                drawn = draw_fence(body)
+                body.end()
+            except Bad as bad:
+                raise Bad(f"byte {at}: {bad}") from None
+            return write_bytes(drawn.encode(), words[1:])
+    raise Bad(f"{words[0]}: there is no fence")
 
 
 def show_command(words):
@@ -590,6 +672,8 @@ def main(words):
     flags = words.count("--input")
     if words[:1] == ["pack"] and len(words) in (2, 3):
         command = pack_command
+    elif words[:1] == ["draw"] and len(words) in (2, 3):
+        command = draw_command
     elif words[:1] == ["show"] and flags <= 1 and words[-1] != "--input" and len(words) <= 2 + 2 * flags:
         command = show_command
     elif words[:1] == ["energy"] and len(words) > 1:

@@ -28,6 +28,17 @@ echo '{"telemetry": [{"now_ms": 0}]}' >"$build/absent.json"
 tools/frames.py pack "$build/absent.json" "$build/absent.frames" || fail "an all-absent telemetry does not pack"
 tail -c 106 "$build/absent.frames" | cmp -s - <(printf '\150\0\3\0' && head -c 102 /dev/zero) || fail "an all-absent telemetry has other bytes"
 
+# A star as kind 8: packed, shown and drawn, its five sides numbered in the order in which they are held.
+echo '{"fence": {"kind": 8, "corners": [[300, 0], [-200, -200], [100, 300], [100, -300], [-200, 200]]}}' >"$build/star.json"
+tools/frames.py pack "$build/star.json" "$build/star.frames" || fail "a star does not pack"
+tools/frames.py show "$build/star.frames" | grep -q '^Fence of kind 8: 5 to 120 m, 5 corners (300, 0) (-200, -200) ' || fail "a star is not shown as kind 8"
+tools/frames.py draw "$build/star.json" "$build/star.svg" || fail "a star is not drawn"
+tools/frames.py draw - <"$build/star.frames" | cmp - "$build/star.svg" || fail "a star's frames are drawn otherwise than the star"
+[ "$(grep -o '>[0-4]<' "$build/star.svg" | tr -d '<>' | tr -d '\n')" = 01234 ] || fail "the sides of a star are not numbered"
+# Sent clockwise, it is held reversed: side 0 goes from the last corner to the one before it.
+grep -m 1 '<line ' "$build/star.svg" | grep -q 'x1="473.3" y1="473.3" x2="40.0" y2="213.3"' || fail "side 0 of a star is another"
+tools/frames.py draw samples/flight.frames | python3 -c 'import sys, xml.etree.ElementTree as x; x.parse(sys.stdin)' || fail "the sample's fence is not drawn"
+
 # Each: what is bad, what the message has to say.
 tried=0
 bad() { # COMMAND TEXT MESSAGE
@@ -52,6 +63,9 @@ bad pack "{\"config\": {\"v_max\": $(printf '9%.0s' $(seq 400))}}" 'config.v_max
 bad pack "$(printf '[%.0s' $(seq 100000))" 'nested too deeply'
 bad pack '{"config": {"cell_count": 256}}' 'config.cell_count: a whole number from 0 to 255'
 bad pack '{"fence": {"corners": [[1, 2], [3]]}}' 'fence.corners[1]: two numbers'
+bad pack '{"fence": {"kind": 3}}' 'fence.kind: 2 or 8 is wanted, not 3'
+bad draw '{"fence": {"corners": [[1, 2], [3, 4]]}}' 'a fence of 3 corners or more'
+bad draw '\4\0\377\0\1\0' 'there is no fence'
 bad show '\1' 'byte 0: the last frame is cut off (refusal 1)'
 bad show '\6\0\4\0' 'byte 0: the last frame has 2 of 6 bytes (refusal 1)'
 bad show '\1\0\0' 'byte 0: a length of 1, which is under 2 (refusal 3)'
@@ -68,6 +82,7 @@ tools/frames.py >/dev/null 2>&1
 if grep -q '^decide:' crates.txt; then
     rt check decide >"$build/check.out" 2>&1 || { cat "$build/check.out" && exit 1; }
     target/bin/decide <samples/flight.frames | cmp - samples/decisions.frames || fail "decide makes other Decisions of the sample"
+    [ "$(target/bin/decide <"$build/star.frames" | tools/frames.py show)" = "Refusal 33: NotOnceRound" ] || fail "decide takes a star as kind 8"
 fi
 if rust=$(oracle/run.sh --path decide 2>/dev/null) && streams=$(oracle/run.sh --path streams 2>/dev/null); then
     "$rust" <samples/flight.frames | cmp - samples/decisions.frames || fail "the Rust makes other Decisions of the sample"

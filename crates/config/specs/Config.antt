@@ -10,7 +10,7 @@ use Rattle.types.specs.declared.Point2.{Point2}
 use Rattle.float32.specs.Binary32.{zeroF}
 use Rattle.float32.specs.Libm.{isFinite}
 use Rattle.geometry.specs.declared.Geofence.{Geofence}
-use Rattle.geometry.specs.Acceptance.{fenceErrorNumber}
+use Rattle.corners.specs.Acceptance.{fenceErrorNumber}
 use Rattle.geometry.specs.Distance.{contains, ringOf}
 use Rattle.config.specs.declared.Config.{Config}
 use Rattle.config.specs.declared.ConfigError.{ConfigError}

@@ -5,7 +5,8 @@ use mathlib.Core.List.{List, [], _∷_}
 use lib.Ieee.{Float, binary32, round, neg}
 use Rattle.types.specs.declared.Point2.{Point2}
 use Rattle.geometry.specs.declared.GeofenceResult.{GeofenceResult}
-use Rattle.geometry.specs.Acceptance.{resultAnd, polygonNew, geofenceNew}
+use Rattle.corners.specs.Acceptance.{resultAnd}
+use Rattle.geometry.specs.Polygon.{polygonNew, geofenceNew}
 use Rattle.config.specs.declared.Config.{Config}
 
 -- the binary32 number nearest to n / d
@@ -92,6 +93,6 @@ defaultCorners = corner (minus 500) (minus 500) ∷ corner (minus 500) (decimal 
 
 unfoldable pub defaultFence : GeofenceResult
 defaultFence =
-    let made = polygonNew 4 defaultCorners in
+    let made = polygonNew false 4 defaultCorners in
     let fenced = geofenceNew (made .poly) (decimal 5 1) (decimal 120 1) in
     record { result = resultAnd (made .result) (fenced .result); fence = fenced .fence }

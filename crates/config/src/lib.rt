@@ -2,8 +2,8 @@
 ghost use mathlib.Core.Path.{_≡_};
 ghost use Rattle.config.specs.Config.{configErrorNumber, badCellCount, badCapacity, nonFiniteParam, nonPositiveSpeed, negativePower, badThresholdOrder, durationOutOfRange, outsideDuration, rtlAltOutsideFence, checkConfig, validateConfig};
 ghost use Rattle.config.specs.Default.{defaultConfig, defaultFence};
+use corners::FenceError;
 use geometry::ConvexPolygon;
-use geometry::FenceError;
 use geometry::Geofence;
 use geometry::GeofenceResult;
 use types::Point2;

@@ -5,8 +5,9 @@ use mathlib.Core.Bool.{cond}
 use mathlib.Core.List.{List}
 use lib.Dec.{eqb}
 use lib.ListN.{replicate}
-use Rattle.geometry.specs.declared.FenceResult.{FenceResult}
-use Rattle.geometry.specs.Acceptance.{fenceErrorNumber, zeroPoint}
+use Rattle.corners.specs.declared.FenceResult.{FenceResult}
+use Rattle.corners.specs.Acceptance.{fenceErrorNumber}
+use Rattle.geometry.specs.Polygon.{zeroPoint}
 use Rattle.geometry.specs.Distance.{ringOf, sideLengths, signedDistanceBy}
 use Rattle.config.specs.declared.Config.{Config}
 use Rattle.config.specs.declared.ConfigResult.{ConfigResult}

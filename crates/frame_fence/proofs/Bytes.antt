@@ -1,6 +1,7 @@
 -- The bytes of corners: how many, one corner more, and the size of the frame. Assumes nothing.
 use Prim.Native.Nat.{ℕ, _+_, _*_, _≤_, _<_}
 use mathlib.Core.Path.{_≡_, _∙_, ap, refl, sym}
+use mathlib.Core.Bool.{Bool}
 use mathlib.Core.List.{List, [], _∷_, _++_}
 use native.Mathlib.Numerals.{add-one}
 use native.Mathlib.Omega.{arith}
@@ -36,6 +37,6 @@ next-corner {m} s l i d h e f =
     joined s 13 (cornerBytes (take i l)) b e (f ∙ ap (λ (k : ℕ). sets m (13 + k) b) n)
     ∙ ap (sets s 13) (sym (ap (λ (k : ℕ). cornerBytes (take k l)) (add-one i) ∙ ap cornerBytes (take-suc l i d h) ∙ corners-snoc (take i l) (getD l i d)))
 
-pub size : (n : ℕ) (x y : Float) (l : List Point2) → n ≤ length l → length (fenceFrame n x y l) ≡ 13 + 8 * n
+pub size : (once : Bool) (n : ℕ) (x y : Float) (l : List Point2) → n ≤ length l → length (fenceFrame once n x y l) ≡ 13 + 8 * n
 unfolding fenceFrame fenceCells frameHead le8 leBytes le16 le32 leF32
-size n x y l h = let e = corners-size (take n l) in let f = length-take-le n l h in omega arith
+size once n x y l h = let e = corners-size (take n l) in let f = length-take-le n l h in omega arith

@@ -10,7 +10,7 @@ use lib.Seq.{take-at, take-all}
 use borrow.Author.Tests.{leb-true, leb-false}
 use Rattle.wire.specs.Fields.{u8At}
 use Rattle.types.specs.declared.Point2.{Point2}
-use Rattle.geometry.specs.Acceptance.{zeroPoint}
+use Rattle.geometry.specs.Polygon.{zeroPoint}
 use Rattle.frame_fence.specs.FenceFrame.{pointAt, cornersAt, cornerArray, cornersSent}
 
 pub length-corners : (s : List ℕ) (i n : ℕ) → length (cornersAt s i n) ≡ n

@@ -15,18 +15,19 @@ fn room(count: u8) -> usize
 }
 
 pub fn written_and_read(
+    once_round: bool,
     count: u8,
     min_alt_m: f32,
     max_alt_m: f32,
     corners: [Point2; 16],
 ) -> FenceRead
-    ensures { λ r. ⌜ r ≡ cond (ltb 16 count) (refusedFence 11) (fenceSent count «min_alt_m» «max_alt_m» (take count corners)) ⌝ }
+    ensures { λ r. ⌜ r ≡ cond (ltb 16 count) (refusedFence 11) (fenceSent «once_round» count «min_alt_m» «max_alt_m» (take count corners)) ⌝ }
 {
     if count > 16 {
         return frame_fence::refused_fence(11);
     }
     let mut b = [0u8; 141];
-    frame_fence::write_fence(&mut b, count, min_alt_m, max_alt_m, corners);
+    frame_fence::write_fence(&mut b, once_round, count, min_alt_m, max_alt_m, corners);
     let n = room(count);
     frame_fence::read_fence(&b[..n])
 }

@@ -12,8 +12,8 @@ use lib.Seq.{getD-at, getD-take, length-take-le, take-all, take-suc, set-at, app
 use borrow.Author.Tests.{lt-ltb, le-ltb}
 use lib.Ieee.{Float, nan, inf}
 use Rattle.types.specs.declared.Point2.{Point2}
-use Rattle.geometry.specs.Ring.{pairs, sides}
-use Rattle.geometry.specs.Acceptance.{heldOrder, placeHeld}
+use Rattle.corners.specs.Ring.{pairs, sides}
+use Rattle.geometry.specs.Polygon.{heldOrder, placeHeld}
 use Rattle.geometry.specs.Distance.{minusOne, least, edgeSignedDistanceBy, signedDistanceBy}
 
 module _ {A : Type 0} where
@@ -31,18 +31,6 @@ module _ {A : Type 0} where
   getD-reverse [] i d h = absurd (not-suc-le-zero h)
   getD-reverse (a ∷ l) i d h = rw (reverse-cons a l) (reverse-place a l i d (getD-reverse l i d) (eq-or-lt-of-le (le-of-suc-le-suc h)))
 
-  take-min : (n : ℕ) (l : List A) → take n l ≡ take (min n (length l)) l
-  take-min zero l = rw zero-min
-  take-min (suc n) [] = rw min-zero
-  take-min (suc n) (a ∷ l) = rw suc-min-suc (ap (λ (r : List A). a ∷ r) (take-min n l))
-
-  -- a count past the array takes no more than the array
-  pub take-capped : (v : List A) (n : ℕ) → length v ≡ 16 → take n v ≡ take (min n 16) v
-  take-capped v n e = rw (take-min n v, e)
-
-  pub length-capped : (v : List A) (n : ℕ) → length v ≡ 16 → length (take n v) ≡ min n 16
-  length-capped v n e = ap length (take-capped v n e) ∙ length-take-le (min n 16) v (omega arith)
-
   -- a turn of a loop that fills the array with m
   pub store : (m : List A) (z : A) (i : ℕ) (d : A) → i < length m → i < 16
       → set (take i m ++ replicate (16 - i) z) i (getD m i d) ≡ take (i + 1) m ++ replicate (16 - (i + 1)) z
@@ -54,10 +42,6 @@ module _ {A : Type 0} where
   -- its end
   pub stored : (m : List A) (z : A) (i n : ℕ) → length m ≡ n → i ≡ n → take i m ++ replicate (16 - i) z ≡ m ++ replicate (16 - n) z
   stored m z i n e k = rw (k, take-all n m (omega arith))
-
--- what an array's read gives past its end: never met
-abbrev pub nowhere : Point2
-nowhere = record { n = nan; e = nan }
 
 pub length-order : (b : Bool) (l : List Point2) → length (heldOrder b l) ≡ length l
 length-order true l = refl

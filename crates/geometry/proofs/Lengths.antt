@@ -6,7 +6,7 @@ use lib.Dec.{ltb}
 use lib.ListN.{length}
 use lib.Ieee.{Float, inf}
 use Rattle.types.specs.declared.Point2.{Point2}
-use Rattle.geometry.specs.Ring.{pairs, sides}
+use Rattle.corners.specs.Ring.{pairs, sides}
 use Rattle.geometry.specs.Distance.{minusOne, sideLength, sideLengths, nearer, least, edgeSignedDistance, edgeSignedDistanceBy, signedDistance, signedDistanceBy}
 
 least-by : (p : Point2) (m : Float) (ss : List (Point2 × Point2)) (z : List Float)

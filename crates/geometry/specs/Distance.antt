@@ -9,8 +9,8 @@ use Rattle.float32.specs.Binary32.{zeroF}
 use Rattle.float32.specs.Sqrt.{squareRoot}
 use Rattle.types.specs.declared.Point2.{Point2}
 use Rattle.types.specs.declared.OptionPoint2.{OptionPoint2}
-use Rattle.geometry.specs.Ring.{fold, pairs, sides}
-use Rattle.geometry.specs.Acceptance.{zeroPoint}
+use Rattle.corners.specs.Ring.{fold, pairs, sides}
+use Rattle.geometry.specs.Polygon.{zeroPoint}
 use Rattle.geometry.specs.declared.ConvexPolygon.{ConvexPolygon}
 use Rattle.geometry.specs.declared.SideLengths.{SideLengths}
 

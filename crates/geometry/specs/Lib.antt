@@ -1,5 +1,3 @@
 -- The definitions that the contracts of `geometry` cite.
-pub mod Ring
-pub mod Acceptance
+pub mod Polygon
 pub mod Distance
-pub mod Round

@@ -7,14 +7,15 @@ use Rattle.types.specs.declared.Action.{Action}
 use Rattle.types.specs.declared.Reason.{Reason}
 use Rattle.types.specs.declared.OptionU32.{OptionU32}
 use Rattle.types.specs.declared.OptionPositionSample.{OptionPositionSample}
-use Rattle.geometry.specs.declared.FenceError.{FenceError}
-use Rattle.geometry.specs.declared.FenceResult.{FenceResult}
+use Rattle.corners.specs.declared.FenceError.{FenceError}
+use Rattle.corners.specs.declared.FenceResult.{FenceResult}
 use Rattle.types.specs.ActiveSet.{emptySet, setRequest, higherRequest, requestedAction}
 use Rattle.time.specs.Time.{wrappingSub, age, fresh, holdMet}
 use Rattle.float32.specs.Sqrt.{squareRoot}
 use Rattle.float32.proofs.SquareRoot.{of-250000}
 use Rattle.float32.specs.Libm.{isFinite, fabs}
-use Rattle.geometry.specs.Acceptance.{polygonFault, cornerFault, samePoint, flatTurn, cross2, mixedTurns, areaTerm, polygonArea, polygonTests, polygonNew, geofenceNew}
+use Rattle.corners.specs.Acceptance.{polygonFault, cornerFault, samePoint, flatTurn, cross2, mixedTurns, areaTerm, polygonArea, polygonTests}
+use Rattle.geometry.specs.Polygon.{polygonNew, geofenceNew}
 use Rattle.geometry.specs.Distance.{sideLength, edgeSignedDistanceBy, signedDistance}
 use Rattle.config.specs.Default.{decimal, defaultFence}
 use Rattle.validate.specs.Glitch.{distanceBetween, withinJump, acceptSample, applyGlitchFilter}
@@ -72,11 +73,11 @@ fence-outside : fenceDistance 501 ≡ neg (whole 1)
 unfolding add sub mul div neg lt ofBits round squareRoot isFinite fabs eq polygonNew geofenceNew areaTerm polygonArea sideLength edgeSignedDistanceBy signedDistance defaultFence
 fence-outside = refl
 
-area-enough : polygonFault 3 (triangle (whole 20)) ≡ FenceResult.Ok
+area-enough : polygonFault false 3 (triangle (whole 20)) ≡ FenceResult.Ok
 unfolding add sub mul lt eq neg ofBits round isFinite fabs cornerFault samePoint flatTurn cross2 mixedTurns areaTerm polygonArea polygonTests
 area-enough = refl
 
-area-too-small : polygonFault 3 (triangle (decimal 199 10)) ≡ FenceResult.Err FenceError.AreaTooSmall
+area-too-small : polygonFault false 3 (triangle (decimal 199 10)) ≡ FenceResult.Err FenceError.AreaTooSmall
 unfolding add sub mul lt eq neg ofBits round isFinite fabs cornerFault samePoint flatTurn cross2 mixedTurns areaTerm polygonArea polygonTests
 area-too-small = refl
 

@@ -15,9 +15,9 @@ use Rattle.types.specs.declared.OptionPositionSample.{OptionPositionSample}
 use Rattle.types.specs.ActiveSet.{emptySet, setRequest, requestedAction}
 use Rattle.time.specs.Time.{age, fresh}
 use Rattle.float32.specs.Sqrt.{squareRoot}
-use Rattle.geometry.specs.declared.FenceError.{FenceError}
-use Rattle.geometry.specs.declared.FenceResult.{FenceResult}
-use Rattle.geometry.specs.Acceptance.{polygonFault}
+use Rattle.corners.specs.declared.FenceError.{FenceError}
+use Rattle.corners.specs.declared.FenceResult.{FenceResult}
+use Rattle.corners.specs.Acceptance.{polygonFault}
 use Rattle.geometry.specs.Distance.{ringOf, signedDistance}
 use Rattle.config.specs.Default.{decimal, defaultFence}
 use Rattle.validate.specs.declared.GlitchState.{GlitchState}
@@ -89,8 +89,8 @@ pub record Table : Type 0 where
   pub fence-inside : fenceDistance 495 ≡ whole 5
   pub fence-outside : fenceDistance 501 ≡ neg (whole 1)
   -- corners (0,0), (0,20), (10,0); with 19.9 for 20 | accepted; AreaTooSmall
-  pub area-enough : polygonFault 3 (triangle (whole 20)) ≡ FenceResult.Ok
-  pub area-too-small : polygonFault 3 (triangle (decimal 199 10)) ≡ FenceResult.Err FenceError.AreaTooSmall
+  pub area-enough : polygonFault false 3 (triangle (whole 20)) ≡ FenceResult.Ok
+  pub area-too-small : polygonFault false 3 (triangle (decimal 199 10)) ≡ FenceResult.Err FenceError.AreaTooSmall
   -- GpsLost and EkfUnhealthy, both Land | EkfUnhealthy
   pub names-ekf : requestedAction (setRequest (setRequest emptySet Reason.GpsLost Action.Land) Reason.EkfUnhealthy Action.Land .reqs) ≡ request Reason.EkfUnhealthy Action.Land
   -- stored at origin, stamp 1000, streak 0, now 2000, v_max 25: 55 m, 56 m | kept; refused

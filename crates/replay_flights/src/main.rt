@@ -9,7 +9,7 @@ mod words;
 
 use config::Config;
 use config::ConfigResult;
-use geometry::FenceResult;
+use corners::FenceResult;
 use geometry::Geofence;
 use geometry::SideLengths;
 use supervisor::Supervisor;

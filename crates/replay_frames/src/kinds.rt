@@ -1,9 +1,9 @@
 // A frame of each kind: read, and where it is not refused written anew.
+use corners::FenceResult;
 use frame_config::ConfigRead;
 use frame_refusal::RefusalRead;
 use frame_state::StateRead;
 use frame_telemetry::TelemetryRead;
-use geometry::FenceResult;
 
 // What reader, rules and writer answered.
 pub struct Numbers {
@@ -54,7 +54,14 @@ fn fence(frame: &[u8], to: &mut [u8]) -> Numbers {
     let made = frame_fence::fence_of(sent);
     let result = made.result;
     let corners = sent.corners;
-    let n = frame_fence::write_fence(to, sent.count, sent.min_alt_m, sent.max_alt_m, corners);
+    let n = frame_fence::write_fence(
+        to,
+        sent.once_round,
+        sent.count,
+        sent.min_alt_m,
+        sent.max_alt_m,
+        corners,
+    );
     Numbers {
         refused: 0,
         rules: number(result),

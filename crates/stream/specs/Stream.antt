@@ -1,6 +1,6 @@
 -- Document 01: "Program `decide` reads a kind 1, a kind 2, then kind 3 frames from standard input and writes one kind 4 frame a step. Where the
 -- input ends at a frame boundary, even before the first frame, it ends and writes no more; at the first refusal it writes one kind 255 frame
--- and ends." Assumes nothing.
+-- and ends." Document 02, L5: "Fences come as kind 8 too": `readFence` takes either. Assumes nothing.
 use Prim.Native.Nat.{ℕ, zero, suc, _+_, _-_}
 use mathlib.Core.Bool.{Bool, true, false, _||_, cond}
 use mathlib.Core.List.{List, [], _++_}

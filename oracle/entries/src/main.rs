@@ -7,7 +7,7 @@
 mod buffers;
 
 use buffers::{Call, Sides};
-use flights::{Both, Coverage, Pilot, Setup, break_config, break_fence, damage};
+use flights::{Both, Coverage, Pilot, Setup, break_config, break_fence, damage, once_round, star};
 use frames::{
     CONFIG, DECISION, STATE, STATE_FRAME, State, TELEMETRY, TELEMETRY_FRAME, put_frame, read_fence,
     read_frame,
@@ -24,9 +24,23 @@ struct Driver {
 }
 
 impl Driver {
+    /// A fence of either kind; now and then a star, as kind 2.
+    fn setup(&mut self) -> Setup {
+        let setup = Setup::random(&mut self.random);
+        let other = match self.random.below(8) {
+            0 => setup.fenced(star(&mut self.random)),
+            1..4 => setup.fenced(once_round(setup.fence.clone())),
+            _ => None,
+        };
+        let setup = other.unwrap_or(setup);
+        self.coverage
+            .add("fence", format!("kind {}", setup.fence[2]));
+        setup
+    }
+
     /// One flight, from a fresh state.
     fn fly(&mut self, steps: usize) -> Result<(), String> {
-        let setup = Setup::random(&mut self.random);
+        let setup = self.setup();
         let mut both = Both::new(&setup.config, &setup.fence).expect("an accepted configuration");
         let mut pilot = Pilot::new(&mut self.random);
         let mut call = Call {
@@ -84,13 +98,21 @@ impl Driver {
         let mut call = sound.clone();
         let faults = 1 + random.below(3);
         for _ in 0..faults {
-            match random.below(10) {
+            match random.below(11) {
                 0 => damage(random, &mut call.config),
                 1 => damage(random, &mut call.fence),
                 2 | 3 => damage(random, &mut call.state),
                 4 | 5 => damage(random, &mut call.telemetry),
                 6 => call.output.truncate(random.below(96)),
                 7 => call.fence = break_fence(random),
+                10 => {
+                    let fence = if random.chance(2) {
+                        star(random)
+                    } else {
+                        break_fence(random)
+                    };
+                    call.fence = once_round(fence);
+                }
                 8 => {
                     if let Ok(config) = call.config.as_mut_slice().try_into() {
                         break_config(random, config);
@@ -169,7 +191,11 @@ impl Driver {
         }
         wanted.extend((1..4).map(|number| format!("{number} fence")));
         wanted.push("5 output".into());
-        wanted.extend((10..19).map(|number| format!("{number} fence rules")));
+        wanted.extend(
+            (10..19)
+                .chain([33])
+                .map(|number| format!("{number} fence rules")),
+        );
         wanted.extend((20..29).map(|number| format!("{number} configuration rules")));
         let missing = wanted
             .into_iter()
@@ -210,7 +236,7 @@ fn part(call: &Call, number: u32) -> &'static str {
         "configuration"
     } else if read_fence(&call.fence).is_err() {
         "fence"
-    } else if number >= 20 {
+    } else if (20..30).contains(&number) {
         "configuration rules"
     } else if number >= 10 {
         "fence rules"

@@ -1,13 +1,13 @@
 //! Frames with faults in them.
 
-use frames::CONFIG_FRAME;
+use frames::{CONFIG_FRAME, FENCE_ONCE_ROUND};
 use random::Random;
 
 use crate::setup::fence_frame;
 
 /// Damages a frame in one of many ways; some leave it sound.
 pub fn damage(random: &mut Random, frame: &mut Vec<u8>) {
-    let kinds = [0, 1, 2, 3, 4, 5, 6, 254, 255, 256, 257, 0x0400];
+    let kinds = [0, 1, 2, 3, 4, 5, 6, 8, 254, 255, 256, 257, 0x0400];
     let old = frame.len();
     match random.below(12) {
         0 => frame.truncate(random.below(old + 1)),
@@ -116,6 +116,24 @@ pub fn break_fence(random: &mut Random) -> Vec<u8> {
         }
     }
     fence_frame(low, high, &points)
+}
+
+/// The same fence as a frame of kind 8.
+pub fn once_round(mut fence: Vec<u8>) -> Vec<u8> {
+    put16(&mut fence, 2, FENCE_ONCE_ROUND);
+    fence
+}
+
+/// A star round home, each corner joined with the one `skip` further on: all its turns have one sign. Sometimes too small.
+pub fn star(random: &mut Random) -> Vec<u8> {
+    let (count, skip) = random.one_of(&[(5, 2), (7, 2), (7, 3), (8, 3), (16, 7)]);
+    let radius = random.one_of(&[300.0, 2000.0, 9000.0, 3.0]);
+    let round = random::circle(random, count, radius, (0.0, 0.0));
+    let mut points: Vec<_> = (0..count).map(|i| round[i * skip % count]).collect();
+    if random.chance(2) {
+        points.reverse();
+    }
+    fence_frame(5.0, 120.0, &points)
 }
 
 /// 17 corners or more, with the matching length.

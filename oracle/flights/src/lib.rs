@@ -10,7 +10,7 @@ mod timers;
 
 pub use both::Both;
 pub use coverage::Coverage;
-pub use damage::{break_config, break_fence, damage};
+pub use damage::{break_config, break_fence, damage, once_round, star};
 pub use pilot::Pilot;
 pub use setup::{Setup, config_frame, fence_frame};
 pub use timers::{Hold, holds};

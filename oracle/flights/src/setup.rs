@@ -45,6 +45,7 @@ pub fn fence_frame(min_alt_m: f32, max_alt_m: f32, points: &[(f32, f32)]) -> Vec
         at,
     };
     let sent = FenceSent {
+        once_round: false,
         min_alt_m,
         max_alt_m,
         corners,
@@ -79,6 +80,11 @@ impl Setup {
     /// The Rust's defaults.
     pub fn defaults() -> Self {
         Self::with(&Config::default())
+    }
+
+    /// The same with another fence, where that is accepted too.
+    pub fn fenced(&self, fence: Vec<u8>) -> Option<Self> {
+        Self::of(&self.cfg, fence)
     }
 
     /// A configuration that is accepted with the default fence.

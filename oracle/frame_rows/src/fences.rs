@@ -1,6 +1,6 @@
 //! Fences: of every count, sound and refused by the fence rules, and with faults in their frames.
 
-use flights::{break_fence, fence_frame};
+use flights::{break_fence, fence_frame, once_round, star};
 use frames::FENCE;
 use random::{Random, circle};
 
@@ -81,5 +81,30 @@ pub fn add(rows: &mut Rows, random: &mut Random) {
         let mut faults = fence_heads(&disagreeing(random, &frame));
         let which = random.below(faults.len());
         rows.add(FENCE, 141, &faults.swap_remove(which));
+    }
+}
+
+/// The same as kind 8, and stars as both kinds.
+pub fn add_once_round(rows: &mut Rows, random: &mut Random) {
+    for count in 3..=16 {
+        let corners = circle(random, count, 300.0, (20.0, -10.0));
+        let frame = once_round(fence_frame(5.0, 120.0, &corners));
+        with_room_and_short(rows, random, &frame);
+    }
+    for _ in 0..16 {
+        let frame = star(random);
+        rows.add(FENCE, 141, &frame);
+        rows.add(FENCE, 141, &once_round(frame));
+    }
+    for _ in 0..40 {
+        let frame = once_round(break_fence(random));
+        with_room_and_short(rows, random, &frame);
+    }
+    for count in [0, 3, 16, 17] {
+        let frame = once_round(crowd(random, count));
+        for fault in fence_heads(&frame) {
+            rows.add(FENCE, 141, &fault);
+        }
+        rows.add(FENCE, 141, &disagreeing(random, &frame));
     }
 }

@@ -53,6 +53,7 @@ fn main() -> std::io::Result<()> {
         rows.add(REFUSAL, 6, &[4, 0, 255, 0, low, high]);
     }
     fences::add(&mut rows, &mut random);
+    fences::add_once_round(&mut rows, &mut random);
     rows.report();
     let missing = rows.missing();
     if !missing.is_empty() {

@@ -126,7 +126,7 @@ impl Rows {
             due.extend([0, 5].map(|n| (kind, "written", n)));
         }
         due.extend([CONFIG, TELEMETRY, DECISION, STATE].map(|kind| (kind, "refused", BAD_VALUE)));
-        due.extend((10..=18).map(|n| (FENCE, "rules", n)));
+        due.extend((10..=18).chain([33]).map(|n| (FENCE, "rules", n)));
         due.push((FENCE, "written", 11));
         due.retain(|key| self.counts.get(key).is_none_or(|&count| count < 3));
         due.iter()

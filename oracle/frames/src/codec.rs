@@ -1,9 +1,10 @@
-//! The bodies of kinds 1 to 4 and 255. Fields stand in the Rust's declared order.
+//! The bodies of kinds 1 to 4, 8 and 255. Fields stand in the Rust's declared order.
 
 use crate::bytes::{Field, NO_ROOM, body, numbered, put_frame, record};
 
 pub const CONFIG: u16 = 1;
 pub const FENCE: u16 = 2;
+pub const FENCE_ONCE_ROUND: u16 = 8;
 pub const TELEMETRY: u16 = 3;
 pub const DECISION: u16 = 4;
 pub const STATE: u16 = 5;
@@ -168,9 +169,10 @@ pub struct Corners {
     pub at: [(f32, f32); 16],
 }
 
-/// The content of a kind 2 frame, before the fence rules.
+/// The content of a kind 2 or kind 8 frame, before the fence rules.
 #[derive(Clone, Copy, Debug, PartialEq)]
 pub struct FenceSent {
+    pub once_round: bool,
     pub min_alt_m: f32,
     pub max_alt_m: f32,
     pub corners: Corners,
@@ -181,9 +183,27 @@ fn real(bytes: &[u8], at: usize) -> f32 {
     f32::from_le_bytes([bytes[at], bytes[at + 1], bytes[at + 2], bytes[at + 3]])
 }
 
+fn fence_kind(once_round: bool) -> u16 {
+    if once_round { FENCE_ONCE_ROUND } else { FENCE }
+}
+
+impl Corners {
+    /// How often the north steps of the sides change their sign, going round. Document 02's rule for kind 8,
+    /// which the Rust has not.
+    fn sign_changes(&self) -> usize {
+        let north = |i: usize| self.at[i % self.count].0;
+        let signs = (0..self.count)
+            .filter_map(|i| north(i + 1).partial_cmp(&north(i)))
+            .filter(|sign| sign.is_ne());
+        let next = signs.clone().skip(1).chain(signs.clone().next());
+        signs.zip(next).filter(|(a, b)| a != b).count()
+    }
+}
+
 #[inline]
 pub fn read_fence(frame: &[u8]) -> Result<FenceSent, u32> {
-    let body = body(frame, FENCE, |body| {
+    let once_round = frame.get(2..4) == Some(&FENCE_ONCE_ROUND.to_le_bytes());
+    let body = body(frame, fence_kind(once_round), |body| {
         body.first()
             .is_some_and(|&count| body.len() == 9 + 8 * count as usize)
     })?;
@@ -193,6 +213,7 @@ pub fn read_fence(frame: &[u8]) -> Result<FenceSent, u32> {
         *corner = (real(bytes, 0), real(bytes, 4));
     }
     Ok(FenceSent {
+        once_round,
         min_alt_m: real(body, 1),
         max_alt_m: real(body, 5),
         corners: Corners { count, at },
@@ -207,7 +228,7 @@ pub fn write_fence(fence: &FenceSent, to: &mut [u8]) -> Result<usize, u32> {
         return Err(NO_ROOM);
     }
     ((length - 2) as u16).write(to);
-    FENCE.write(&mut to[2..]);
+    fence_kind(fence.once_round).write(&mut to[2..]);
     to[4] = count as u8;
     fence.min_alt_m.write(&mut to[5..]);
     fence.max_alt_m.write(&mut to[9..]);
@@ -218,7 +239,7 @@ pub fn write_fence(fence: &FenceSent, to: &mut [u8]) -> Result<usize, u32> {
     Ok(length)
 }
 
-/// The fence rules of one build of the Rust: the fence, or 10 to 18.
+/// The fence rules of one build of the Rust: the fence, or 10 to 18; for kind 8 also 33, after 16 and before 17.
 macro_rules! fence_rules {
     ($name:ident, $rust:ident) => {
         #[inline]
@@ -235,6 +256,10 @@ macro_rules! fence_rules {
                 Some(points) => $rust::ConvexPolygon::new(points),
                 None => Err(TooManyVertices),
             };
+            let turns_fit = matches!(made, Ok(_) | Err(AreaTooSmall));
+            if sent.once_round && turns_fit && sent.corners.sign_changes() > 2 {
+                return Err(33);
+            }
             made.and_then(|poly| $rust::Geofence::new(poly, sent.min_alt_m, sent.max_alt_m))
                 .map_err(|error| match error {
                     TooFewVertices => 10,

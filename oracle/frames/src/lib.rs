@@ -14,8 +14,8 @@ pub use bytes::{
     read_frame, write_frame,
 };
 pub use codec::{
-    CONFIG, Corners, DECISION, FENCE, FenceSent, REFUSAL, STATE, TELEMETRY, fence_core, fence_open,
-    put_refusal, read_fence, write_fence,
+    CONFIG, Corners, DECISION, FENCE, FENCE_ONCE_ROUND, FenceSent, REFUSAL, STATE, TELEMETRY,
+    fence_core, fence_open, put_refusal, read_fence, write_fence,
 };
 pub use entry::{config_error_core, config_error_open, fresh_entry, step_entry};
 pub use state::State;

@@ -129,6 +129,40 @@ fn fences() {
     }
 }
 
+/// A five-pointed star of kind 8, of this size.
+fn star(c: &mut Call, size: f32) {
+    let corners = [(3, 0), (-2, 2), (1, -3), (1, 3), (-2, -2)];
+    c.fence = vec![51, 0, 8, 0, 5];
+    c.fence.extend(5f32.to_le_bytes());
+    c.fence.extend(120f32.to_le_bytes());
+    for (n, e) in corners {
+        c.fence.extend((n as f32 * size).to_le_bytes());
+        c.fence.extend((e as f32 * size).to_le_bytes());
+    }
+}
+
+#[test]
+fn fences_of_kind_8() {
+    assert_eq!(number(|c| c.fence[2] = 8), 0);
+    assert_eq!(number(|c| c.fence = vec![2, 0, 8, 0]), 3);
+    assert_eq!(number(|c| (c.fence[2], c.fence[4]) = (8, 3)), 3);
+    // A star is taken as kind 2 and turned away as kind 8, before its area and its altitudes.
+    assert_eq!(number(|c| (star(c, 100.0), c.fence[2] = 2).1), 0);
+    assert_eq!(number(|c| star(c, 100.0)), 33);
+    assert_eq!(number(|c| (star(c, 1.0), c.fence[2] = 2).1), 17);
+    assert_eq!(number(|c| star(c, 1.0)), 33);
+    assert_eq!(number(|c| (star(c, 100.0), c.fence[8] = 0x7F).1), 33);
+    // After 12 and 14.
+    assert_eq!(
+        number(|c| (star(c, 100.0), c.fence[15] = 0x80, c.fence[16] = 0x7F).2),
+        12
+    );
+    assert_eq!(
+        number(|c| (star(c, 100.0), c.fence.copy_within(13..21, 21)).1),
+        14
+    );
+}
+
 #[test]
 fn across_frames() {
     let bad_config = |c: &mut Call| c.config[9] = 2;

@@ -7,7 +7,7 @@ mod programs;
 
 use std::collections::BTreeMap;
 
-use flights::{Both, Pilot, Setup, break_config, break_fence, damage};
+use flights::{Both, Pilot, Setup, break_config, break_fence, damage, once_round, star};
 use frames::{TELEMETRY, TELEMETRY_FRAME, put_frame};
 use programs::Program;
 use random::Random;
@@ -57,7 +57,11 @@ fn longest(kind: u16) -> Vec<u8> {
 
 /// A stream, good or not.
 fn stream(random: &mut Random, case: usize) -> Vec<u8> {
-    let setup = Setup::random(random);
+    let mut setup = Setup::random(random);
+    if random.chance(2) {
+        let other = setup.fenced(once_round(setup.fence.clone()));
+        setup = other.unwrap_or(setup);
+    }
     let steps = random.one_of(&[0, 1, 3, 40, 800]);
     let mut all = flight(random, &setup, steps);
     let at = random.below(all.len());
@@ -73,9 +77,10 @@ fn stream(random: &mut Random, case: usize) -> Vec<u8> {
                 all[1] = break_fence(random);
             }
         }
+        5 if random.chance(3) => all[1] = once_round(star(random)),
         5 => all[1] = break_fence(random),
         6 => {
-            let kind = random.one_of(&[1, 2, 3, 4, 5, 255]);
+            let kind = random.one_of(&[1, 2, 3, 4, 5, 8, 255]);
             all.insert(at, longest(kind));
         }
         _ => {
@@ -135,7 +140,7 @@ fn compare(port: &Program, rust: &Program, cases: usize, seed: u64) -> Result<St
         .map(|(number, count)| format!("{number}: {count}"))
         .collect();
     println!("ended with: {}", told.join(", "));
-    for number in [0, 1, 2, 3, 4, 11, 16] {
+    for number in [0, 1, 2, 3, 4, 11, 16, 33] {
         if !endings.contains_key(&number) {
             return Err(format!("no stream ended with {number}"));
         }

@@ -6,8 +6,9 @@ use native.Mathlib.Omega.{arith}
 use lib.ListN.{take, replicate}
 use denote.Ref.{now}
 use borrow.Author.Needs.{needs}
-use Rattle.geometry.specs.Acceptance.{zeroPoint}
-use Rattle.geometry.proofs.Hold.{nowhere, store, stored}
+use Rattle.geometry.specs.Polygon.{zeroPoint}
+use Rattle.corners.proofs.Places.{nowhere}
+use Rattle.geometry.proofs.Hold.{store, stored}
 use Rattle.frame_fence.specs.FenceFrame.{cornersAt, cornerArray}
 use Rattle.frame_fence.proofs.Corners.{length-corners, corner-at}
 use Rattle.frame_fence.proofs.corners_at.Statement.{statement}

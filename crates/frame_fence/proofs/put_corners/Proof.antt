@@ -5,7 +5,7 @@ use native.Mathlib.Omega.{arith}
 use lib.ListN.{length, take}
 use lib.Seq.{sets, length-sets}
 use denote.Ref.{now}
-use Rattle.geometry.proofs.Hold.{nowhere}
+use Rattle.corners.proofs.Places.{nowhere}
 use Rattle.frame_fence.specs.FenceFrame.{cornerCells}
 use Rattle.frame_fence.proofs.Bytes.{cornerBytes, next-corner}
 use Rattle.frame_fence.proofs.put_corners.Statement.{statement}

@@ -32,10 +32,10 @@ unfolding writeFault fenceWritten
 returns-2 c =
     let z = c .before .before .before .before in
     let a = z .args in
-    let f = fenceFrame (a .count) (a .min-alt-m) (a .max-alt-m) (a .corners) in
-    let long : length (a .corners) ≡ 16 = z .good .1 .1 .1 .1 .0 .1 .0 .1 in
+    let f = fenceFrame (a .once-round) (a .count) (a .min-alt-m) (a .max-alt-m) (a .corners) in
+    let long : length (a .corners) ≡ 16 = z .good .1 .1 .1 .1 .1 .0 .1 .0 .1 in
     let w = c .before .widened .ensures in
-    let r = no-room f (now (a .s)) (13 + 8 * a .count) (size (a .count) (a .min-alt-m) (a .max-alt-m) (a .corners) (omega arith)) (omega arith) in
+    let r = no-room f (now (a .s)) (13 + 8 * a .count) (size (a .once-round) (a .count) (a .min-alt-m) (a .max-alt-m) (a .corners) (omega arith)) (omega arith) in
     let t = le-ltb 16 (a .count) (omega arith) in
     (simp t (r .0), simp t (r .1))
 
@@ -50,10 +50,10 @@ unfolding writeFault fenceWritten
 returns-3 c =
     let z = c .before .before .before .before .before .before .before .before in
     let a = z .args in
-    let f = fenceFrame (a .count) (a .min-alt-m) (a .max-alt-m) (a .corners) in
-    let long : length (a .corners) ≡ 16 = z .good .1 .1 .1 .1 .0 .1 .0 .1 in
+    let f = fenceFrame (a .once-round) (a .count) (a .min-alt-m) (a .max-alt-m) (a .corners) in
+    let long : length (a .corners) ≡ 16 = z .good .1 .1 .1 .1 .1 .0 .1 .0 .1 in
     let w = c .before .before .before .before .before .widened .ensures in
-    let r = room f (now (a .s)) (13 + 8 * a .count) (size (a .count) (a .min-alt-m) (a .max-alt-m) (a .corners) (omega arith)) (omega arith) in
+    let r = room f (now (a .s)) (13 + 8 * a .count) (size (a .once-round) (a .count) (a .min-alt-m) (a .max-alt-m) (a .corners) (omega arith)) (omega arith) in
     let t = le-ltb 16 (a .count) (omega arith) in
     (simp t (r .0), simp t (c .before .before .put-fence .ensures ∙ r .1))
 

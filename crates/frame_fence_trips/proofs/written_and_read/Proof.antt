@@ -1,6 +1,7 @@
 -- `frame_fence_trips::written_and_read` meets its contract. What is known of the floats of a fence comes from their type. Assumes nothing.
 use Prim.Native.Nat.{ℕ, suc, zero, _+_, _*_, _≤_}
 use mathlib.Core.Path.{_≡_, _∙_, ap, sym}
+use mathlib.Core.Bool.{Bool}
 use mathlib.Core.List.{List, [], _∷_}
 use native.Mathlib.Omega.{arith}
 use lib.ListN.{length, take, drop, replicate}
@@ -38,21 +39,21 @@ within-take (suc n) [] h = tt
 within-take (suc n) (p ∷ l) h = (h .0, (h .1 .0, within-take n l (h .1 .1)))
 
 -- the frame stands at the start of the buffer
-written : (n : ℕ) (x y : Float) (l : List Point2) → n ≤ 16 → length l ≡ 16 → take (13 + 8 * n) (fenceWritten n (fenceFrame n x y l) (replicate 141 0)) ≡ fenceFrame n x y l
+written : (once : Bool) (n : ℕ) (x y : Float) (l : List Point2) → n ≤ 16 → length l ≡ 16 → take (13 + 8 * n) (fenceWritten n (fenceFrame once n x y l) (replicate 141 0)) ≡ fenceFrame once n x y l
 unfolding fenceWritten frameWritten
-written n x y l h k =
-    let f = fenceFrame n x y l in
-    let e : length f ≡ 13 + 8 * n = size n x y l (omega arith) in
+written once n x y l h k =
+    let f = fenceFrame once n x y l in
+    let e : length f ≡ 13 + 8 * n = size once n x y l (omega arith) in
     simp (le-ltb 16 n h, le-ltb 141 (length f) (omega arith)) (take-at f (drop (length f) (replicate 141 0)) (13 + 8 * n) e)
 
 within : (c : tie.Start) → Within (fenceCells (c .args .count) (c .args .min-alt-m) (c .args .max-alt-m) (take (c .args .count) (c .args .corners)))
 unfolding fenceCells
 within c =
     let a = c .args in (
-      c .good .0 .1,
+      c .good .1 .0 .1,
       (
-        passes _ (c .good .1 .0 .1),
-        (passes _ (c .good .1 .1 .0 .1), within-take (a .count) (a .corners) (corners-within (a .corners) _ (c .good .1 .1 .1 .0 .1 .1))),
+        passes _ (c .good .1 .1 .0 .1),
+        (passes _ (c .good .1 .1 .1 .0 .1), within-take (a .count) (a .corners) (corners-within (a .corners) _ (c .good .1 .1 .1 .1 .0 .1 .1))),
       ),
     )
 
@@ -85,13 +86,13 @@ returns-2 : tie.Need-returns-2
 returns-2 c =
     let z = c .before .before .before .before .before .before .before in
     let a = z .args in
-    let long : length (a .corners) ≡ 16 = z .good .1 .1 .1 .0 .1 .0 .1 in
+    let long : length (a .corners) ≡ 16 = z .good .1 .1 .1 .1 .0 .1 .0 .1 in
     let h : a .count ≤ 16 = omega arith in
     let w = c .before .before .before .before .write-fence in
     simp (le-ltb 16 (a .count) h)
     (c .read-fence .ensures
-    ∙ ap readFence ((λ j. take (c .before .before .room .ensures j) (w .ensures .1 j)) ∙ written (a .count) (a .min-alt-m) (a .max-alt-m) (a .corners) h long)
-    ∙ value-back (a .count) (a .min-alt-m) (a .max-alt-m) (a .corners) h long (within z))
+    ∙ ap readFence ((λ j. take (c .before .before .room .ensures j) (w .ensures .1 j)) ∙ written (a .once-round) (a .count) (a .min-alt-m) (a .max-alt-m) (a .corners) h long)
+    ∙ value-back (a .once-round) (a .count) (a .min-alt-m) (a .max-alt-m) (a .corners) h long (within z))
 
 pub written-and-read-spec : {M : Type 1} → statement M
 written-and-read-spec =

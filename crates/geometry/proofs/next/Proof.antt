@@ -1,7 +1,7 @@
 -- `next` meets its contract. Assumes nothing.
 use native.Mathlib.Omega.{arith}
 use borrow.Author.Needs.{needs}
-use Rattle.geometry.proofs.Laws.{next-less, next-last}
+use Rattle.corners.proofs.Laws.{next-less, next-last}
 use Rattle.geometry.proofs.next.Statement.{statement}
 use Rattle.geometry.proofs.next.Tie as tie
 

@@ -6,8 +6,9 @@ use native.Mathlib.Omega.{arith}
 use lib.ListN.{length, take, replicate}
 use lib.Seq.{length-take-le}
 use borrow.Author.Needs.{needs}
-use Rattle.geometry.specs.Acceptance.{heldOrder, zeroPoint}
-use Rattle.geometry.proofs.Hold.{nowhere, held-at, held-count, store, stored}
+use Rattle.geometry.specs.Polygon.{heldOrder, zeroPoint}
+use Rattle.corners.proofs.Places.{nowhere}
+use Rattle.geometry.proofs.Hold.{held-at, held-count, store, stored}
 use Rattle.geometry.proofs.normalize_ccw.Statement.{statement}
 use Rattle.geometry.proofs.normalize_ccw.Tie as tie
 

@@ -7,10 +7,11 @@ use lib.ListN.{length, take, replicate, length-map, List·getD-map}
 use lib.Seq.{length-take-le}
 use borrow.Author.Needs.{needs}
 use Rattle.float32.specs.Binary32.{zeroF}
-use Rattle.geometry.specs.Ring.{sides}
+use Rattle.corners.specs.Ring.{sides}
 use Rattle.geometry.specs.Distance.{sideLength}
-use Rattle.geometry.proofs.Laws.{side-is, side-count}
-use Rattle.geometry.proofs.Hold.{nowhere, store, stored, take-capped}
+use Rattle.corners.proofs.Laws.{side-is, side-count}
+use Rattle.corners.proofs.Places.{nowhere, take-capped}
+use Rattle.geometry.proofs.Hold.{store, stored}
 use Rattle.geometry.proofs.side_lengths.Statement.{statement}
 use Rattle.geometry.proofs.side_lengths.Tie as tie
 

@@ -7,10 +7,11 @@ use native.Mathlib.Omega.{arith}
 use lib.Ieee.{inf, nan}
 use lib.ListN.{length, getD, take, drop, length-map}
 use borrow.Author.Needs.{needs}
-use Rattle.geometry.specs.Ring.{pairs, sides}
+use Rattle.corners.specs.Ring.{pairs, sides}
 use Rattle.geometry.specs.Distance.{edgeSignedDistanceBy, least}
-use Rattle.geometry.proofs.Laws.{next-last, side-beside, side-beside-end}
-use Rattle.geometry.proofs.Hold.{nowhere, take-capped, length-capped, distance-few, distance-many}
+use Rattle.corners.proofs.Laws.{next-last, side-beside, side-beside-end}
+use Rattle.corners.proofs.Places.{nowhere, take-capped, length-capped}
+use Rattle.geometry.proofs.Hold.{distance-few, distance-many}
 use Rattle.geometry.proofs.signed_distance_by.Statement.{statement}
 use Rattle.geometry.proofs.signed_distance_by.Tie as tie
 

@@ -4,10 +4,10 @@ use native.Mathlib.Omega.{arith}
 use lib.ListN.{length, length-map}
 use borrow.Author.Needs.{needs}
 use borrow.Author.Tests.{lt-ltb, le-ltb}
-use Rattle.geometry.specs.Acceptance.{zeroPoint}
+use Rattle.geometry.specs.Polygon.{zeroPoint}
 use Rattle.geometry.specs.Distance.{vertex}
-use Rattle.geometry.proofs.Laws.{getD-within}
-use Rattle.geometry.proofs.Hold.{nowhere}
+use Rattle.corners.proofs.Laws.{getD-within}
+use Rattle.corners.proofs.Places.{nowhere}
 use Rattle.geometry.proofs.ConvexPolygon.vertex.Statement.{statement}
 use Rattle.geometry.proofs.ConvexPolygon.vertex.Tie as tie
 

@@ -1,6 +1,6 @@
 -- `Geofence::new` meets its contract. Assumes nothing.
 use borrow.Author.Needs.{needs}
-use Rattle.geometry.specs.Acceptance.{geofenceNew}
+use Rattle.geometry.specs.Polygon.{geofenceNew}
 use Rattle.geometry.proofs.Geofence.new.Statement.{statement}
 use Rattle.geometry.proofs.Geofence.new.Tie as tie
 

@@ -1,0 +1,15 @@
+-- `same_point` meets its contract. Assumes nothing.
+use Rattle.corners.specs.Acceptance.{samePoint}
+use Rattle.corners.proofs.same_point.Statement.{statement}
+use Rattle.corners.proofs.same_point.Tie as tie
+
+returns : tie.Need-returns
+unfolding samePoint
+returns c = rw (c .before .before .if1 .taken)
+
+returns-2 : tie.Need-returns-2
+unfolding samePoint
+returns-2 c = rw (c .if1 .left)
+
+pub same-point-spec : {M : Type 1} → statement M
+same-point-spec = tie.close (tie.spec returns returns-2)

@@ -1,0 +1,2 @@
+-- The theorems on fences of kind 8.
+pub mod Star

@@ -1,0 +1,2 @@
+-- What is claimed of fences of kind 8.
+pub mod Star
