@@ -7,7 +7,7 @@ use Rattle.types.specs.declared.Reason.{Reason}
 use Rattle.types.specs.declared.Request.{Request}
 use Rattle.types.specs.declared.OptionU32.{OptionU32}
 use Rattle.types.specs.Numbers.{rank}
-use Rattle.time.specs.Time.{holdMet}
+use Rattle.time.specs.Time.{Clock, holdMet}
 use Rattle.arbiter.specs.declared.ArbiterState.{ArbiterState}
 use Rattle.arbiter.specs.declared.Arbitrated.{Arbitrated}
 
@@ -46,16 +46,16 @@ recoveryStart OptionU32.None now = now
 recoveryStart (OptionU32.Some since) now = since
 
 -- a sound step that wants less than the previous output shows it where the recovery has lasted, and else the previous output again
-unfoldable pub recover : ArbiterState → ℕ → ℕ → Request → Arbitrated
-recover s now hold want =
+unfoldable pub recover : Clock → ArbiterState → ℕ → ℕ → Request → Arbitrated
+recover clock s now hold want =
     let since = recoveryStart (s .«recovery_since_ms») now in
-    cond (holdMet now since hold) (shown want OptionU32.None) (shown (previous s) (OptionU32.Some since))
+    cond (holdMet clock now since hold) (shown want OptionU32.None) (shown (previous s) (OptionU32.Some since))
 
 -- a fault shows the previous output again and leaves the recovery alone; what ranks at least as high as the previous output is shown at once
-unfoldable pub applyPersistence : ArbiterState → ℕ → ℕ → Request → Bool → Arbitrated
-applyPersistence s now hold want true = shown (previous s) (s .«recovery_since_ms»)
-applyPersistence s now hold want false =
-    cond (leb (rank (s .«prev_output»)) (rank (want .action))) (shown want OptionU32.None) (recover s now hold want)
+unfoldable pub applyPersistence : Clock → ArbiterState → ℕ → ℕ → Request → Bool → Arbitrated
+applyPersistence clock s now hold want true = shown (previous s) (s .«recovery_since_ms»)
+applyPersistence clock s now hold want false =
+    cond (leb (rank (s .«prev_output»)) (rank (want .action))) (shown want OptionU32.None) (recover clock s now hold want)
 
 abbrev pub needsPosition : Action → Bool
 needsPosition Action.Nominal = false
@@ -69,5 +69,5 @@ unfoldable pub applyFeasibility : Arbitrated → Bool → Arbitrated
 applyFeasibility a positionValid =
     cond (needsPosition (a .output .action) && not positionValid) (shown (request Reason.PositionInvalid Action.Land) OptionU32.None) a
 
-unfoldable pub arbitrate : ArbiterState → ℕ → ℕ → Request → Bool → Bool → Arbitrated
-arbitrate s now hold want positionValid fault = applyFeasibility (applyPersistence s now hold want fault) positionValid
+unfoldable pub arbitrate : Clock → ArbiterState → ℕ → ℕ → Request → Bool → Bool → Arbitrated
+arbitrate clock s now hold want positionValid fault = applyFeasibility (applyPersistence clock s now hold want fault) positionValid

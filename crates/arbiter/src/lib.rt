@@ -1,5 +1,6 @@
 // The Rust's arbiter.rs: latches, persistence, feasibility.
 ghost use mathlib.Core.Path.{_≡_};
+ghost use Rattle.time.specs.Time.{wrapping};
 ghost use Rattle.arbiter.specs.Arbiter.{freshArbiter, withoutRecovery, wanted, applyPersistence, applyFeasibility, arbitrate, previous, recoveryStart, recover, shown, needsPosition};
 use types::Action;
 use types::OptionU32;
@@ -90,7 +91,7 @@ fn recovery_start(since: OptionU32, now_ms: u32) -> u32
 
 // What a sound step that wants less than before shows: the wanted action where the recovery has lasted.
 fn recover(state: ArbiterState, now_ms: u32, recovery_hold_ms: u32, wanted: Request) -> Arbitrated
-    ensures { λ r. ⌜ r ≡ recover state «now_ms» «recovery_hold_ms» wanted ⌝ }
+    ensures { λ r. ⌜ r ≡ recover wrapping state «now_ms» «recovery_hold_ms» wanted ⌝ }
 {
     let s = state.recovery_since_ms;
     let since = recovery_start(s, now_ms);
@@ -125,7 +126,7 @@ pub fn apply_persistence(
     wanted: Request,
     clock_fault: bool,
 ) -> Arbitrated
-    ensures { λ r. ⌜ r ≡ applyPersistence state «now_ms» «recovery_hold_ms» wanted «clock_fault» ⌝ }
+    ensures { λ r. ⌜ r ≡ applyPersistence wrapping state «now_ms» «recovery_hold_ms» wanted «clock_fault» ⌝ }
 {
     if clock_fault {
         let since = state.recovery_since_ms;
@@ -176,7 +177,7 @@ pub fn arbitrate(
     position_valid: bool,
     clock_fault: bool,
 ) -> Arbitrated
-    ensures { λ r. ⌜ r ≡ arbitrate state «now_ms» «recovery_hold_ms» wanted «position_valid» «clock_fault» ⌝ }
+    ensures { λ r. ⌜ r ≡ arbitrate wrapping state «now_ms» «recovery_hold_ms» wanted «position_valid» «clock_fault» ⌝ }
 {
     let p = apply_persistence(state, now_ms, recovery_hold_ms, wanted, clock_fault);
     apply_feasibility(p, position_valid)

@@ -29,6 +29,7 @@ use Rattle.types.proofs.OptionStampedLandedState as Lnd
 use Rattle.types.proofs.OptionStampedLandedState.Laws as Lnd′
 use Rattle.types.proofs.Action as Act
 use Rattle.types.proofs.Action.Laws as Act′
+use Rattle.time.specs.Time.{wrapping}
 
 -- the by-value parameters, in order
 abbrev pub Rs : List RattleType
@@ -49,7 +50,7 @@ typed 𝓤 H A W = (uint-lawful 𝓤 H A W w32, (EL.lawful Arm.the-type Arm′.t
 
 -- the definition at the gate and at the parameters
 abbrev pub answer : DisarmGate → Denots Rs → Evaluated
-answer h a = evaluate h (a .0) (a .1 .0) (a .1 .1 .0) (a .1 .1 .1 .0) (a .1 .1 .1 .1 .0) (a .1 .1 .1 .1 .1 .0) (a .1 .1 .1 .1 .1 .1 .0)
+answer h a = evaluate wrapping h (a .0) (a .1 .0) (a .1 .1 .0) (a .1 .1 .1 .0) (a .1 .1 .1 .1 .0) (a .1 .1 .1 .1 .1 .0) (a .1 .1 .1 .1 .1 .1 .0)
 
 abbrev pub gate-vals : DisarmGate → List Val
 gate-vals = SL.vals G.the-type G′.the-laws

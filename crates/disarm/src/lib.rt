@@ -1,5 +1,6 @@
 // The Rust's disarm.rs: when the motors may be stopped. The gate goes in by value and comes back; its lent form stands last.
 ghost use mathlib.Core.Path.{_≡_};
+ghost use Rattle.time.specs.Time.{wrapping};
 ghost use Rattle.disarm.specs.Disarm.{closed, isLand, onGround, gateOpen, holdFrom, evaluate};
 use types::Action;
 use types::LandedState;
@@ -60,7 +61,7 @@ fn gate_open(
     status_fresh_ms: u32,
     requested: Action,
 ) -> bool
-    ensures { λ r. ⌜ r ≡ gateOpen «now_ms» armed landed «status_fresh_ms» requested ⌝ }
+    ensures { λ r. ⌜ r ≡ gateOpen wrapping «now_ms» armed landed «status_fresh_ms» requested ⌝ }
 {
     let land = is_land(requested);
     let is_armed = validate::fresh_true(now_ms, armed, status_fresh_ms);
@@ -69,7 +70,7 @@ fn gate_open(
 }
 
 fn hold_from(since: OptionU32, now_ms: u32, hold_ms: u32) -> Evaluated
-    ensures { λ r. ⌜ r ≡ holdFrom since «now_ms» «hold_ms» ⌝ }
+    ensures { λ r. ⌜ r ≡ holdFrom wrapping since «now_ms» «hold_ms» ⌝ }
 {
     match since {
         OptionU32::Some(t) => Evaluated {
@@ -98,7 +99,7 @@ pub fn evaluate_gate(
     requested: Action,
     clock_fault: bool,
 ) -> Evaluated
-    ensures { λ r. ⌜ r ≡ evaluate gate «now_ms» armed landed «status_fresh_ms» «disarm_hold_ms» requested «clock_fault» ⌝ }
+    ensures { λ r. ⌜ r ≡ evaluate wrapping gate «now_ms» armed landed «status_fresh_ms» «disarm_hold_ms» requested «clock_fault» ⌝ }
 {
     let open = gate_open(now_ms, armed, landed, status_fresh_ms, requested);
     if open & !clock_fault {
@@ -130,8 +131,8 @@ impl DisarmGate {
         requested: Action,
         clock_fault: bool,
     ) -> bool
-        ensures { λ r. ⌜ r ≡ evaluate (now (self .entry)) «now_ms» armed landed «status_fresh_ms» «disarm_hold_ms» requested «clock_fault» .eligible ⌝ }
-        ensures { λ _. ⌜ now (self .exit) ≡ evaluate (now (self .entry)) «now_ms» armed landed «status_fresh_ms» «disarm_hold_ms» requested «clock_fault» .gate ⌝ }
+        ensures { λ r. ⌜ r ≡ evaluate wrapping (now (self .entry)) «now_ms» armed landed «status_fresh_ms» «disarm_hold_ms» requested «clock_fault» .eligible ⌝ }
+        ensures { λ _. ⌜ now (self .exit) ≡ evaluate wrapping (now (self .entry)) «now_ms» armed landed «status_fresh_ms» «disarm_hold_ms» requested «clock_fault» .gate ⌝ }
     {
         let a = evaluate_gate(
             *self,
@@ -168,7 +169,7 @@ pub fn evaluate_lent(
     requested: Action,
     clock_fault: bool,
 ) -> Evaluated
-    ensures { λ r. ⌜ r ≡ evaluate gate «now_ms» armed landed «status_fresh_ms» «disarm_hold_ms» requested «clock_fault» ⌝ }
+    ensures { λ r. ⌜ r ≡ evaluate wrapping gate «now_ms» armed landed «status_fresh_ms» «disarm_hold_ms» requested «clock_fault» ⌝ }
 {
     let mut g = gate;
     let eligible = g.evaluate(

@@ -8,7 +8,7 @@ use lib.ListN.{replicate}
 use Rattle.corners.specs.declared.FenceResult.{FenceResult}
 use Rattle.corners.specs.Acceptance.{fenceErrorNumber}
 use Rattle.geometry.specs.Polygon.{zeroPoint}
-use Rattle.geometry.specs.Distance.{ringOf, sideLengths, signedDistanceBy}
+use Rattle.geometry.specs.Distance.{ringOf, sideLengths}
 use Rattle.config.specs.declared.Config.{Config}
 use Rattle.config.specs.declared.ConfigResult.{ConfigResult}
 use Rattle.config.specs.Config.{configErrorNumber, validateConfig}
@@ -17,6 +17,7 @@ use Rattle.float32.specs.Binary32.{zeroF}
 use Rattle.types.specs.declared.Telemetry.{Telemetry}
 use Rattle.supervisor.specs.declared.Supervisor.{Supervisor}
 use Rattle.supervisor.specs.declared.Stepped.{Stepped}
+use Rattle.supervisor.specs.Settings.{baseSettings, fenceSiteBy, fedAt}
 use Rattle.supervisor.specs.Step.{step}
 use Rattle.frame_config.specs.declared.ConfigRead.{ConfigRead}
 use Rattle.frame_config.specs.ConfigFrame.{readConfig}
@@ -67,4 +68,4 @@ readFlight config fence = afterConfig (readConfig config) fence
 
 -- one step, with the lengths that the flight holds
 unfoldable pub stepFlight : Flight → Supervisor → Telemetry → Stepped
-stepFlight f s t = step (signedDistanceBy (ringOf (f .fence .poly)) (f .lengths .m)) (f .fence .«min_alt_m») (f .fence .«max_alt_m») (f .cfg) s t
+stepFlight f s t = step (baseSettings (f .cfg)) s (fedAt (fenceSiteBy (f .fence) (f .lengths)) t)

@@ -6,9 +6,9 @@ use Rattle.types.specs.declared.Reason.{Reason}
 use Rattle.types.specs.declared.ActiveSet.{ActiveSet}
 use Rattle.types.specs.declared.OptionAction.{OptionAction}
 use Rattle.types.specs.declared.OptionF32.{OptionF32}
-use Rattle.types.specs.declared.Point2.{Point2}
 use Rattle.types.specs.declared.Telemetry.{Telemetry}
 use Rattle.types.specs.ActiveSet.{emptySet}
+use Rattle.time.specs.Time.{Clock}
 use Rattle.config.specs.declared.Config.{Config}
 use Rattle.validate.specs.Bounds.{validateTelemetry}
 use Rattle.validate.specs.Fresh.{confirmedDisarm}
@@ -18,6 +18,7 @@ use Rattle.triggers.specs.declared.OptionPlace.{OptionPlace}
 use Rattle.triggers.specs.declared.TriggerState.{TriggerState}
 use Rattle.triggers.specs.Update.{setIf, setOption, linkRequests, fenceRequests, batteryRequests, requests, families, update}
 use Rattle.supervisor.specs.declared.Supervisor.{Supervisor}
+use Rattle.supervisor.specs.Settings.{Settings, Fed}
 use Rattle.supervisor.specs.Clock.{clockStep}
 use Rattle.supervisor.specs.Step.{triggersAfter, arbiterAfter, glitchAfter, sense, disarmedDecision, disarmed, decisionOf, flown, step}
 use Rattle.supervisor.proofs.Rules.{either}
@@ -63,23 +64,25 @@ batteries s f h =
     (file _ (f .battery .warn .on) _ _
     (file s (f .stale .stale) Reason.StaleBattery Action.ReturnToLaunch h)))))
 
-updated : (s : TriggerState) (t : Telemetry) (cfg : Config) (lo hi : Float) (p : OptionPlace) (m : OptionF32) (i f : Bool) → Kept (update s t cfg lo hi p m i f .active)
+updated : (ck : Clock) (s : TriggerState) (t : Telemetry) (cfg : Config) (lo hi : Float) (p : OptionPlace) (m : OptionF32) (i f : Bool) → Kept (update ck s t cfg lo hi p m i f .active)
 unfolding update requests
-updated s t cfg lo hi p m i true = canonical-set emptySet Reason.ClockFault Action.Warn canonical-empty
-updated s t cfg lo hi p m i false =
-    let f = families s t cfg lo hi p m i in
+updated ck s t cfg lo hi p m i true = canonical-set emptySet Reason.ClockFault Action.Warn canonical-empty
+updated ck s t cfg lo hi p m i false =
+    let f = families ck s t cfg lo hi p m i in
     batteries (fenceRequests (linkRequests f) (f .fence)) f (fences (linkRequests f) (f .fence) (links f))
 
-pub step-canonical : (dist : Point2 → Float) (lo hi : Float) (cfg : Config) (s : Supervisor) (raw : Telemetry) → Canonical (step dist lo hi cfg s raw .decision .active .reqs)
+pub step-canonical : (r : Settings) (s : Supervisor) (fed : Fed) → Canonical (step r s fed .decision .active .reqs)
 unfolding step disarmed disarmedDecision flown sense decisionOf
-step-canonical dist lo hi cfg s raw =
-    let clock = clockStep (s .«last_now») (s .«epoch_start») (s .«backwards_streak») (s .initialized) (raw .«now_ms») in
+step-canonical r s fed =
+    let raw = fed .telemetry in
+    let cfg = r .cfg in
+    let clock = clockStep (r .clock) (s .«last_now») (s .«epoch_start») (s .«backwards_streak») (s .initialized) (raw .«now_ms») in
     let v = validateTelemetry raw (cfg .«usable_capacity_wh») in
     let t = v .telemetry in
     let glitch = glitchAfter (clock .third) (s .glitch) in
-    let sensed = sense dist lo hi (triggersAfter (clock .third) (s .triggers)) glitch t (v .«invalid_input») cfg (clock .fault) in
+    let sensed = sense r (fed .site) (triggersAfter (clock .third) (s .triggers)) glitch t (v .«invalid_input») (clock .fault) in
     either
-    (λ b. Kept (cond b (disarmed cfg clock glitch) (flown sensed (arbiterAfter (clock .third) (s .arbiter)) (s .disarm) clock t cfg) .decision .active))
+    (λ b. Kept (cond b (disarmed cfg clock glitch) (flown r sensed (arbiterAfter (clock .third) (s .arbiter)) (s .disarm) clock t) .decision .active))
     canonical-empty
-    (updated _ _ _ _ _ _ _ _ (clock .fault))
-    (confirmedDisarm (t .«now_ms») (t .armed) (cfg .«status_fresh_ms»))
+    (updated (r .clock) _ _ _ _ _ _ _ _ (clock .fault))
+    (confirmedDisarm (r .clock) (t .«now_ms») (t .armed) (cfg .«status_fresh_ms»))

@@ -1,7 +1,7 @@
 // The frames of what a step leaves, written and read again: the very state, and the very Decision.
 ghost use mathlib.Core.Path.{_≡_};
-ghost use Rattle.geometry.specs.Distance.{ringOf, signedDistance};
 ghost use Rattle.supervisor.specs.Rules.{Rules};
+ghost use Rattle.supervisor.specs.Settings.{baseSettings, fenceSite, fedAt};
 ghost use Rattle.supervisor.specs.Step.{step};
 ghost use Rattle.frame_decision.specs.DecisionFrame.{accepted, canonical};
 ghost use Rattle.frame_state.specs.StateFrame.{readState, stateFrame};
@@ -34,8 +34,8 @@ pub fn decision_again(d: Decision) -> DecisionRead
 
 // The same for the state after a step: the very state, where the step began from one that obeys the rules.
 pub fn stepped_state_again(x: Supervisor, cfg: Config, fence: Geofence, raw: Telemetry) -> StateRead
-    ensures { λ r. ⌜ (Rules x → r ≡ StateRead.Frame (step (signedDistance (ringOf (fence .poly))) (fence .«min_alt_m») (fence .«max_alt_m») cfg x raw .supervisor)) ⌝ }
-    ensures { λ r. ⌜ r ≡ readState (stateFrame (step (signedDistance (ringOf (fence .poly))) (fence .«min_alt_m») (fence .«max_alt_m») cfg x raw .supervisor)) ⌝ }
+    ensures { λ r. ⌜ (Rules x → r ≡ StateRead.Frame (step (baseSettings cfg) x (fedAt (fenceSite fence) raw) .supervisor)) ⌝ }
+    ensures { λ r. ⌜ r ≡ readState (stateFrame (step (baseSettings cfg) x (fedAt (fenceSite fence) raw) .supervisor)) ⌝ }
 {
     let y = x.step(cfg, fence, raw);
     let s = y.supervisor;
@@ -51,7 +51,7 @@ pub fn stepped_decision_again(
     fence: Geofence,
     raw: Telemetry,
 ) -> DecisionRead
-    ensures { λ r. ⌜ r ≡ accepted (step (signedDistance (ringOf (fence .poly))) (fence .«min_alt_m») (fence .«max_alt_m») cfg x raw .decision) ⌝ }
+    ensures { λ r. ⌜ r ≡ accepted (step (baseSettings cfg) x (fedAt (fenceSite fence) raw) .decision) ⌝ }
 {
     let y = x.step(cfg, fence, raw);
     let d = y.decision;

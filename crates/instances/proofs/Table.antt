@@ -10,7 +10,7 @@ use Rattle.types.specs.declared.OptionPositionSample.{OptionPositionSample}
 use Rattle.corners.specs.declared.FenceError.{FenceError}
 use Rattle.corners.specs.declared.FenceResult.{FenceResult}
 use Rattle.types.specs.ActiveSet.{emptySet, setRequest, higherRequest, requestedAction}
-use Rattle.time.specs.Time.{wrappingSub, age, fresh, holdMet}
+use Rattle.time.specs.Time.{wrapping, wrappingSub, age, fresh, holdMet}
 use Rattle.float32.specs.Sqrt.{squareRoot}
 use Rattle.float32.proofs.SquareRoot.{of-250000}
 use Rattle.float32.specs.Libm.{isFinite, fabs}
@@ -22,23 +22,23 @@ use Rattle.validate.specs.Glitch.{distanceBetween, withinJump, acceptSample, ap
 use Rattle.arbiter.specs.Arbiter.{request, recover, applyPersistence, applyFeasibility, arbitrate}
 use Rattle.instances.specs.Table.{Table, whole, triangle, northOf, fenceDistance, filteredAt, shownAt}
 
-age-wraps : age 5 4294967291 ≡ OptionU32.Some 10
+age-wraps : age wrapping 5 4294967291 ≡ OptionU32.Some 10
 unfolding wrappingSub age
 age-wraps = refl
 
-age-longest : age (2 ^ 31 - 1) 0 ≡ OptionU32.Some 2147483647
+age-longest : age wrapping (2 ^ 31 - 1) 0 ≡ OptionU32.Some 2147483647
 unfolding wrappingSub age
 age-longest = refl
 
-age-absent : age (2 ^ 31) 0 ≡ OptionU32.None
+age-absent : age wrapping (2 ^ 31) 0 ≡ OptionU32.None
 unfolding wrappingSub age
 age-absent = refl
 
-at-limit : fresh 1000 0 1000 ≡ true
+at-limit : fresh wrapping 1000 0 1000 ≡ true
 unfolding wrappingSub age fresh
 at-limit = refl
 
-past-limit : fresh 1001 0 1000 ≡ false
+past-limit : fresh wrapping 1001 0 1000 ≡ false
 unfolding wrappingSub age fresh
 past-limit = refl
 

@@ -13,7 +13,7 @@ use Rattle.types.specs.declared.OptionU32.{OptionU32}
 use Rattle.types.specs.declared.PositionSample.{PositionSample}
 use Rattle.types.specs.declared.OptionPositionSample.{OptionPositionSample}
 use Rattle.types.specs.ActiveSet.{emptySet, setRequest, requestedAction}
-use Rattle.time.specs.Time.{age, fresh}
+use Rattle.time.specs.Time.{wrapping, age, fresh}
 use Rattle.float32.specs.Sqrt.{squareRoot}
 use Rattle.corners.specs.declared.FenceError.{FenceError}
 use Rattle.corners.specs.declared.FenceResult.{FenceResult}
@@ -55,7 +55,7 @@ storedAtOrigin = record { «last_accepted» = OptionPositionSample.Some (northOf
 
 -- what the filter makes of a sample n metres away, at 2000 with v_max 25
 abbrev pub filteredAt : ℕ → OptionPositionSample
-filteredAt n = applyGlitchFilter storedAtOrigin 2000 (OptionPositionSample.Some (northOf 2000 n)) (whole 25) .position
+filteredAt n = applyGlitchFilter wrapping storedAtOrigin 2000 (OptionPositionSample.Some (northOf 2000 n)) (whole 25) .position
 
 -- ReturnToLaunch was shown
 abbrev pub returning : ArbiterState
@@ -63,7 +63,7 @@ returning = record { «prev_output» = Action.ReturnToLaunch; «prev_reason» = 
 
 -- Warn is wanted, with a valid position and no fault, under a hold of 5000
 abbrev pub warnAt : ArbiterState → ℕ → Arbitrated
-warnAt s now = arbitrate s now 5000 (request Reason.BatteryWarn Action.Warn) true false
+warnAt s now = arbitrate wrapping s now 5000 (request Reason.BatteryWarn Action.Warn) true false
 
 -- the action shown at a later step that wants it still, the first at 1000
 abbrev pub shownAt : ℕ → Action
@@ -72,13 +72,13 @@ shownAt now = warnAt (warnAt returning 1000 .state) now .output .action
 -- "given | answer"
 pub record Table : Type 0 where
   -- age of 4,294,967,291 at 5 | 10
-  pub age-wraps : age 5 4294967291 ≡ OptionU32.Some 10
+  pub age-wraps : age wrapping 5 4294967291 ≡ OptionU32.Some 10
   -- age of 0 at 2^31 − 1; at 2^31 | 2,147,483,647; absent
-  pub age-longest : age (2 ^ 31 - 1) 0 ≡ OptionU32.Some 2147483647
-  pub age-absent : age (2 ^ 31) 0 ≡ OptionU32.None
+  pub age-longest : age wrapping (2 ^ 31 - 1) 0 ≡ OptionU32.Some 2147483647
+  pub age-absent : age wrapping (2 ^ 31) 0 ≡ OptionU32.None
   -- age 1000, 1001, limit 1000 | fresh; stale
-  pub at-limit : fresh 1000 0 1000 ≡ true
-  pub past-limit : fresh 1001 0 1000 ≡ false
+  pub at-limit : fresh wrapping 1000 0 1000 ≡ true
+  pub past-limit : fresh wrapping 1001 0 1000 ≡ false
   -- root of 250,000; of 2 | 500; bits 3FB504F3
   pub root-of-250000 : squareRoot (whole 250000) ≡ whole 500
   pub root-of-2 : toBits binary32 (squareRoot (whole 2)) ≡ 0x3FB5_04F3

@@ -11,14 +11,14 @@ use Rattle.types.specs.declared.Reason.{Reason}
 use Rattle.types.specs.declared.OptionU32.{OptionU32}
 use Rattle.types.specs.declared.Request.{Request}
 use Rattle.types.specs.Numbers.{rank}
-use Rattle.time.specs.Time.{holdMet}
+use Rattle.time.specs.Time.{Clock, holdMet}
 use Rattle.arbiter.specs.declared.ArbiterState.{ArbiterState}
 use Rattle.arbiter.specs.declared.Arbitrated.{Arbitrated}
 use Rattle.arbiter.specs.Arbiter.{freshArbiter, withoutRecovery, request, shown, previous, recoveryStart, recover, applyPersistence, needsPosition, applyFeasibility, arbitrate}
 use Rattle.supervisor.specs.Step.{arbiterAfter}
 use Rattle.ladder.specs.Ladder.{Step, ranksBelow, wantsLess, Earlier, earliest, quietStretch, lasted, candidate, changedToLand}
 use Rattle.ladder.specs.Claim.{allowed}
-use Rattle.ladder.proofs.Choices.{cond-ap, cond-same, cond-no, ltb-self, opposite}
+use Rattle.ladder.proofs.Choices.{cond-ap, cond-same, cond-no, ltb-self, opposite, needs-is, met-is}
 use Rattle.ladder.proofs.Stretch.{orElse, goesOn, from-before}
 
 -- ---- the action kept is the action shown
@@ -30,23 +30,23 @@ same-cond : (c : Bool) (x y : Arbitrated) → Same x → Same y → Same (cond c
 same-cond true x y p q = p
 same-cond false x y p q = q
 
-same-recover : (a : ArbiterState) (now hold : ℕ) (want : Request) → Same (recover a now hold want)
+same-recover : (ck : Clock) (a : ArbiterState) (now hold : ℕ) (want : Request) → Same (recover ck a now hold want)
 unfolding recover
-same-recover a now hold want =
+same-recover ck a now hold want =
     let start = recoveryStart (a .«recovery_since_ms») now in
-    same-cond (holdMet now start hold) (shown want OptionU32.None) (shown (previous a) (OptionU32.Some start)) refl refl
+    same-cond (holdMet ck now start hold) (shown want OptionU32.None) (shown (previous a) (OptionU32.Some start)) refl refl
 
-same-persisted : (a : ArbiterState) (now hold : ℕ) (want : Request) (f : Bool) → Same (applyPersistence a now hold want f)
+same-persisted : (ck : Clock) (a : ArbiterState) (now hold : ℕ) (want : Request) (f : Bool) → Same (applyPersistence ck a now hold want f)
 unfolding applyPersistence
-same-persisted a now hold want true = refl
-same-persisted a now hold want false =
-    same-cond (leb (rank (a .«prev_output»)) (rank (want .action))) (shown want OptionU32.None) (recover a now hold want) refl (same-recover a now hold want)
+same-persisted ck a now hold want true = refl
+same-persisted ck a now hold want false =
+    same-cond (leb (rank (a .«prev_output»)) (rank (want .action))) (shown want OptionU32.None) (recover ck a now hold want) refl (same-recover ck a now hold want)
 
-same : (a : ArbiterState) (now hold : ℕ) (want : Request) (valid f : Bool) → Same (arbitrate a now hold want valid f)
+same : (ck : Clock) (a : ArbiterState) (now hold : ℕ) (want : Request) (valid f : Bool) → Same (arbitrate ck a now hold want valid f)
 unfolding arbitrate applyFeasibility
-same a now hold want valid f =
-    let p = applyPersistence a now hold want f in
-    same-cond (needsPosition (p .output .action) && not valid) (shown (request Reason.PositionInvalid Action.Land) OptionU32.None) p refl (same-persisted a now hold want f)
+same ck a now hold want valid f =
+    let p = applyPersistence ck a now hold want f in
+    same-cond (needsPosition (p .output .action) && not valid) (shown (request Reason.PositionInvalid Action.Land) OptionU32.None) p refl (same-persisted ck a now hold want f)
 
 -- ---- the step
 
@@ -61,9 +61,9 @@ or-now (OptionU32.Some a) now = refl
 abbrev pub since : ArbiterState → OptionU32
 since a = a .«recovery_since_ms»
 
-module _ (hold : ℕ) (a : ArbiterState) (want : Request) (k : Step) (before : List Earlier) where
+module _ (ck : Clock) (hold : ℕ) (a : ArbiterState) (want : Request) (k : Step) (before : List Earlier) where
   abbrev pub arbitrated : Arbitrated
-  arbitrated = arbitrate (arbiterAfter (k .third) a) (k .now) hold want (k .positionValid) (k .faulted)
+  arbitrated = arbitrate ck (arbiterAfter (k .third) a) (k .now) hold want (k .positionValid) (k .faulted)
 
   -- a confirmed disarm goes back to the fresh arbiter
   abbrev pub shownAction : Action
@@ -74,18 +74,18 @@ module _ (hold : ℕ) (a : ArbiterState) (want : Request) (k : Step) (before : L
 
   -- before the look at the position
   abbrev persisted : Arbitrated
-  persisted = applyPersistence (arbiterAfter (k .third) a) (k .now) hold want (k .faulted)
+  persisted = applyPersistence ck (arbiterAfter (k .third) a) (k .now) hold want (k .faulted)
 
   abbrev met : Bool
-  met = holdMet (k .now) (recoveryStart (goesOn before) (k .now)) hold
+  met = holdMet ck (k .now) (recoveryStart (goesOn before) (k .now)) hold
 
   -- k as an earlier step
   abbrev pub asEarlier : Earlier
-  asEarlier = record { step = k; changedToLand = changedToLand hold k before }
+  asEarlier = record { step = k; changedToLand = changedToLand ck hold k before }
 
   pub output-kept : (d : Bool) → k .disarm ≡ d → kept .«prev_output» ≡ shownAction
   output-kept true d = rw d
-  output-kept false d = rw d (same (arbiterAfter (k .third) a) (k .now) hold want (k .positionValid) (k .faulted))
+  output-kept false d = rw d (same ck (arbiterAfter (k .third) a) (k .now) hold want (k .positionValid) (k .faulted))
 
   module _
       (faults : k .third ≡ true → k .faulted ≡ true)
@@ -100,9 +100,9 @@ module _ (hold : ℕ) (a : ArbiterState) (want : Request) (k : Step) (before : L
       stretch-is : k .disarm ≡ false → k .faulted ≡ false → wantsLess k ≡ true → earliest (length before) k before ≡ OptionU32.Some (recoveryStart (goesOn before) (k .now))
       stretch-is d f w = rw (from-before k before, d, no-third _ refl f, f, w) (or-now (goesOn before) (k .now))
 
-      lasted-is : k .disarm ≡ false → k .faulted ≡ false → wantsLess k ≡ true → lasted hold k before ≡ met
+      lasted-is : k .disarm ≡ false → k .faulted ≡ false → wantsLess k ≡ true → lasted ck hold k before ≡ met
       unfolding quietStretch
-      lasted-is d f w = simp (f, stretch-is d f w)
+      lasted-is d f w = simp (f, stretch-is d f w) (met-is ck (k .now) (recoveryStart (goesOn before) (k .now)) hold)
 
       -- what the rule gives on a fault, and at a sound step
       on-fault : k .faulted ≡ true → persisted ≡ shown (previous (arbiterAfter (k .third) a)) (since (arbiterAfter (k .third) a))
@@ -118,7 +118,7 @@ module _ (hold : ℕ) (a : ArbiterState) (want : Request) (k : Step) (before : L
       previous-is true = shows
       previous-is false = shows
 
-      candidate-by : (f w : Bool) → k .faulted ≡ f → wantsLess k ≡ w → k .disarm ≡ false → persisted .output .action ≡ candidate hold k before
+      candidate-by : (f w : Bool) → k .faulted ≡ f → wantsLess k ≡ w → k .disarm ≡ false → persisted .output .action ≡ candidate ck hold k before
       candidate-by true w f e d = rw (on-fault f, f) (previous-is (k .third))
       candidate-by false false f e d = rw (on-sound false f e, f, e) wants
       candidate-by false true f e d = rw (on-sound true f e, lasted-is d f e, f, e) (by met)
@@ -127,25 +127,25 @@ module _ (hold : ℕ) (a : ArbiterState) (want : Request) (k : Step) (before : L
           by true = wants
           by false = shows
 
-      candidate-is : k .disarm ≡ false → persisted .output .action ≡ candidate hold k before
+      candidate-is : k .disarm ≡ false → persisted .output .action ≡ candidate ck hold k before
       candidate-is d = candidate-by _ _ refl refl d
 
       -- after the look at the position
-      output-is : k .disarm ≡ false → arbitrated .output .action ≡ cond (changedToLand hold k before) Action.Land (candidate hold k before)
+      output-is : k .disarm ≡ false → arbitrated .output .action ≡ cond (changedToLand ck hold k before) Action.Land (candidate ck hold k before)
       unfolding arbitrate applyFeasibility
-      output-is d = rw (cond-ap (λ (r : Arbitrated). r .output .action), candidate-is d)
+      output-is d = rw (cond-ap (λ (r : Arbitrated). r .output .action), needs-is, candidate-is d)
 
-      since-is : k .disarm ≡ false → since (arbitrated .state) ≡ cond (changedToLand hold k before) OptionU32.None (since (persisted .state))
+      since-is : k .disarm ≡ false → since (arbitrated .state) ≡ cond (changedToLand ck hold k before) OptionU32.None (since (persisted .state))
       unfolding arbitrate applyFeasibility
-      since-is d = rw (cond-ap (λ (r : Arbitrated). since (r .state)), candidate-is d)
+      since-is d = rw (cond-ap (λ (r : Arbitrated). since (r .state)), needs-is, candidate-is d)
 
-      pub shown-allowed : (d : Bool) → k .disarm ≡ d → shownAction ≡ allowed hold k before
+      pub shown-allowed : (d : Bool) → k .disarm ≡ d → shownAction ≡ allowed ck hold k before
       shown-allowed true d = rw d
       shown-allowed false d = rw (output-is d, d)
 
       -- the recovery that is kept, where k is not changed to Land
       abbrev Goes : Type 0
-      Goes = since (persisted .state) ≡ cond (not (ranksBelow (candidate hold k before) (k .previousOutput))) (earliest (length before) k before) OptionU32.None
+      Goes = since (persisted .state) ≡ cond (not (ranksBelow (candidate ck hold k before) (k .previousOutput))) (earliest (length before) k before) OptionU32.None
 
       goes-on-fault : (t : Bool) → k .third ≡ t → k .disarm ≡ false → k .faulted ≡ true → Goes
       unfolding withoutRecovery
@@ -161,8 +161,8 @@ module _ (hold : ℕ) (a : ArbiterState) (want : Request) (k : Step) (before : L
       goes-by true f d = goes-on-fault _ refl d f
       goes-by false f d = goes-on-sound _ _ refl refl d f
 
-      kept-since : k .disarm ≡ false → changedToLand hold k before ≡ false → since kept ≡ since (persisted .state)
-      kept-since d q = rw d (since-is d ∙ cond-no (changedToLand hold k before) _ _ q)
+      kept-since : k .disarm ≡ false → changedToLand ck hold k before ≡ false → since kept ≡ since (persisted .state)
+      kept-since d q = rw d (since-is d ∙ cond-no (changedToLand ck hold k before) _ _ q)
 
       abbrev goesPast : Action → Bool → OptionU32
       goesPast action changed = cond (not (ranksBelow action (k .previousOutput)) && not changed) (earliest (length before) k before) OptionU32.None
@@ -172,15 +172,15 @@ module _ (hold : ℕ) (a : ArbiterState) (want : Request) (k : Step) (before : L
 
       -- where k shows what the arbiter gave, what the arbiter keeps is what a next step goes on with
       module _ (is-shown : k .action ≡ shownAction) where
-        unchanged : k .disarm ≡ false → changedToLand hold k before ≡ false → k .action ≡ candidate hold k before
-        unchanged d q = is-shown ∙ shown-allowed false d ∙ cond-no (k .disarm) _ _ d ∙ cond-no (changedToLand hold k before) _ _ q
+        unchanged : k .disarm ≡ false → changedToLand ck hold k before ≡ false → k .action ≡ candidate ck hold k before
+        unchanged d q = is-shown ∙ shown-allowed false d ∙ cond-no (k .disarm) _ _ d ∙ cond-no (changedToLand ck hold k before) _ _ q
 
-        pub since-kept : (d c : Bool) → k .disarm ≡ d → changedToLand hold k before ≡ c → since kept ≡ goesOn (asEarlier ∷ before)
+        pub since-kept : (d c : Bool) → k .disarm ≡ d → changedToLand ck hold k before ≡ c → since kept ≡ goesOn (asEarlier ∷ before)
         since-kept true c d q = rw (from-before k before, d, cond-same)
         since-kept false true d q = rw (q, and-false, d, since-is d, q)
         since-kept false false d q =
             kept-since d q
             ∙ goes-by _ refl d
-            ∙ past (candidate hold k before)
+            ∙ past (candidate ck hold k before)
             ∙ ap (λ (x : Action). goesPast x false) (sym (unchanged d q))
             ∙ ap (goesPast (k .action)) (sym q)

@@ -7,4 +7,4 @@ use Rattle.ladder.specs.Instances.{played, actions, LadderInstances}
 
 pub ladder-instances : LadderInstances
 unfolding wrappingSub age holdMet lastSound faultedRow quiet earliest quietStretch withChanges played actions
-ladder-instances = record { table = refl; disarms = refl; cameDown = refl; changed = refl; soundStart = refl; faults = refl; thirds = refl }
+ladder-instances = record { table = refl; disarms = refl; cameDown = refl; changed = refl; soundStart = refl; faults = refl; thirds = refl; holdLost = refl; holdLostLasting = refl; keptLost = refl }

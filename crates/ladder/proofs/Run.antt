@@ -3,12 +3,8 @@ use Prim.Native.Nat.{ℕ, _%_}
 use mathlib.Core.Path.{_≡_, refl, ap, sym, _∙_}
 use mathlib.Core.Bool.{Bool, true, cond}
 use mathlib.Core.List.{List, [], _∷_}
-use lib.Ieee.{Float}
 use Rattle.types.specs.declared.Action.{Action}
-use Rattle.types.specs.declared.Point2.{Point2}
 use Rattle.types.specs.declared.Request.{Request}
-use Rattle.types.specs.declared.Telemetry.{Telemetry}
-use Rattle.config.specs.declared.Config.{Config}
 use Rattle.validate.specs.Bounds.{validateTelemetry}
 use Rattle.triggers.specs.Update.{freshTriggers}
 use Rattle.arbiter.specs.declared.ArbiterState.{ArbiterState}
@@ -18,6 +14,7 @@ use Rattle.supervisor.specs.declared.Supervisor.{Supervisor}
 use Rattle.supervisor.specs.declared.ClockStep.{ClockStep}
 use Rattle.supervisor.specs.declared.Sensed.{Sensed}
 use Rattle.supervisor.specs.declared.Stepped.{Stepped}
+use Rattle.supervisor.specs.Settings.{Settings, Fed}
 use Rattle.supervisor.specs.Clock.{clockStep}
 use Rattle.supervisor.specs.Step.{freshSupervisor, arbiterAfter, glitchAfter, disarmed, disarmedDecision, decisionOf, flown, step}
 use Rattle.ladder.specs.Ladder.{Step, Earlier, withChanges}
@@ -30,16 +27,16 @@ use Rattle.ladder.proofs.Arbiter.{since, shownAction, kept, output-kept
 use Rattle.ladder.proofs.Obeys.{obeys}
 use Rattle.ladder.proofs.Clock.{Told, told, some, third-faulted}
 
-module _ (dist : Point2 → Float) (minAlt maxAlt : Float) (cfg : Config) where
+module _ (r : Settings) where
   abbrev hold : ℕ
-  hold = cfg .«recovery_hold_ms»
+  hold = r .cfg .«recovery_hold_ms»
 
   -- the steps before, as the record gives them
   abbrev before : List Line → List Earlier
-  before l = withChanges hold (stepsOf dist minAlt maxAlt cfg l)
+  before l = withChanges (r .clock) hold (stepsOf r l)
 
   abbrev followedIn : List Line → Followed
-  followedIn l = followed dist minAlt maxAlt cfg l
+  followedIn l = followed r l
 
   abbrev want : Sensed → Request
   want s = wanted (s .requested) (s .triggers .«battery_critical_latched») (s .triggers .«energy_infeasible_latched»)
@@ -47,8 +44,8 @@ module _ (dist : Point2 → Float) (minAlt maxAlt : Float) (cfg : Config) where
   -- the invariant
   pub record Agrees (s : Supervisor) (l : List Line) : Type 0 where
     pub initialized : s .initialized ≡ some (readings l)
-    pub last : s .«last_now» ≡ lastSound (readings l)
-    pub streak : s .«backwards_streak» ≡ faultedRow (readings l) % 3
+    pub last : s .«last_now» ≡ lastSound (r .clock) (readings l)
+    pub streak : s .«backwards_streak» ≡ faultedRow (r .clock) (readings l) % 3
     pub triggers : s .triggers ≡ followedIn l .triggers
     pub glitch : s .glitch ≡ followedIn l .glitch
     pub output : s .arbiter .«prev_output» ≡ previousOutput l
@@ -58,33 +55,33 @@ module _ (dist : Point2 → Float) (minAlt maxAlt : Float) (cfg : Config) where
   unfolding freshSupervisor lastSound faultedRow followed withChanges stepsOf
   fresh-agrees = record { initialized = refl; last = refl; streak = refl; triggers = refl; glitch = refl; output = refl; recovery = refl }
 
-  module _ (s : Supervisor) (t : Telemetry) (l : List Line) where
+  module _ (s : Supervisor) (t : Fed) (l : List Line) where
     abbrev stepped : Stepped
-    stepped = step dist minAlt maxAlt cfg s t
+    stepped = step r s t
 
     abbrev line : Line
     line = record { fed = t; action = stepped .decision .action }
 
     abbrev k : Step
-    k = stepOf dist minAlt maxAlt cfg line l
+    k = stepOf r line l
 
     abbrev isDisarm : Bool
-    isDisarm = disarm cfg line
+    isDisarm = disarm r line
 
     -- ---- one step, part by part
     abbrev clock : ClockStep
-    clock = clockStep (s .«last_now») (s .«epoch_start») (s .«backwards_streak») (s .initialized) (t .«now_ms»)
+    clock = clockStep (r .clock) (s .«last_now») (s .«epoch_start») (s .«backwards_streak») (s .initialized) (t .telemetry .«now_ms»)
 
     abbrev kept-part : Followed
     kept-part = record { triggers = s .triggers; glitch = s .glitch }
 
     abbrev senses : Sensed
-    senses = sensed dist minAlt maxAlt cfg kept-part t (clock .fault) (clock .third)
+    senses = sensed r kept-part t (clock .fault) (clock .third)
 
     abbrev arbiterBy : Sensed → Bool → Bool → Arbitrated
-    arbiterBy seen fault isThird = arbitrate (arbiterAfter isThird (s .arbiter)) (t .«now_ms») hold (want seen) (seen .«position_valid») fault
+    arbiterBy seen fault isThird = arbitrate (r .clock) (arbiterAfter isThird (s .arbiter)) (t .telemetry .«now_ms») hold (want seen) (seen .«position_valid») fault
 
-    stepped-is : stepped ≡ cond isDisarm (disarmed cfg clock (glitchAfter (clock .third) (s .glitch))) (flown senses (arbiterAfter (clock .third) (s .arbiter)) (s .disarm) clock (validateTelemetry t (cfg .«usable_capacity_wh») .telemetry) cfg)
+    stepped-is : stepped ≡ cond isDisarm (disarmed (r .cfg) clock (glitchAfter (clock .third) (s .glitch))) (flown r senses (arbiterAfter (clock .third) (s .arbiter)) (s .disarm) clock (validateTelemetry (t .telemetry) (r .cfg .«usable_capacity_wh») .telemetry))
     unfolding step sensed validateTelemetry
     stepped-is = refl
 
@@ -119,25 +116,25 @@ module _ (dist : Point2 → Float) (minAlt maxAlt : Float) (cfg : Config) where
     -- ---- the same read off the record
     module _ (i : Agrees s l) where
       abbrev isFaulted : Bool
-      isFaulted = faulted (t .«now_ms») (readings l)
+      isFaulted = faulted (r .clock) (t .telemetry .«now_ms») (readings l)
 
       abbrev isThird : Bool
-      isThird = third (t .«now_ms») (readings l)
+      isThird = third (r .clock) (t .telemetry .«now_ms») (readings l)
 
       abbrev seen : Sensed
-      seen = sensed dist minAlt maxAlt cfg (followedIn l) t isFaulted isThird
+      seen = sensed r (followedIn l) t isFaulted isThird
 
-      clock-told : Told (t .«now_ms») (readings l) clock
-      clock-told = rw (i .last, i .initialized) (told (readings l) (t .«now_ms») (s .«epoch_start») (s .«backwards_streak») (i .streak))
+      clock-told : Told (r .clock) (t .telemetry .«now_ms») (readings l) clock
+      clock-told = rw (i .last, i .initialized) (told (r .clock) (readings l) (t .telemetry .«now_ms») (s .«epoch_start») (s .«backwards_streak») (i .streak))
 
       seen-is : senses ≡ seen
       seen-is = rw (i .triggers, i .glitch, clock-told .fault, clock-told .is-third)
 
-      action-is : stepped .decision .action ≡ shownAction hold (s .arbiter) (want seen) k (before l)
+      action-is : stepped .decision .action ≡ shownAction (r .clock) hold (s .arbiter) (want seen) k (before l)
       unfolding stepOf
       action-is = action-part ∙ rw (seen-is, clock-told .fault, clock-told .is-third)
 
-      arbiter-is : stepped .supervisor .arbiter ≡ kept hold (s .arbiter) (want seen) k (before l)
+      arbiter-is : stepped .supervisor .arbiter ≡ kept (r .clock) hold (s .arbiter) (want seen) k (before l)
       unfolding stepOf
       arbiter-is = arbiter-part ∙ rw (seen-is, clock-told .fault, clock-told .is-third)
 
@@ -153,12 +150,12 @@ module _ (dist : Point2 → Float) (minAlt maxAlt : Float) (cfg : Config) where
       unfolding stepOf
       shows = i .output
 
-      is-shown : k .action ≡ shownAction hold (s .arbiter) (want seen) k (before l)
+      is-shown : k .action ≡ shownAction (r .clock) hold (s .arbiter) (want seen) k (before l)
       unfolding stepOf
       is-shown = action-is
 
-      pub step-obeys : Obeys hold k (before l)
-      step-obeys = obeys hold k (before l) (is-shown ∙ shown-allowed hold (s .arbiter) (want seen) k (before l) faults wants shows (i .recovery) _ refl)
+      pub step-obeys : Obeys (r .clock) hold k (before l)
+      step-obeys = obeys (r .clock) hold k (before l) (is-shown ∙ shown-allowed (r .clock) hold (s .arbiter) (want seen) k (before l) faults wants shows (i .recovery) _ refl)
 
       triggers-is : stepped .supervisor .triggers ≡ followedIn (line ∷ l) .triggers
       unfolding followed
@@ -169,11 +166,11 @@ module _ (dist : Point2 → Float) (minAlt maxAlt : Float) (cfg : Config) where
       glitch-is = glitch-part ∙ rw (seen-is, clock-told .is-third, i .glitch)
 
       output-is : stepped .supervisor .arbiter .«prev_output» ≡ previousOutput (line ∷ l)
-      output-is = ap (λ (a : ArbiterState). a .«prev_output») arbiter-is ∙ output-kept hold (s .arbiter) (want seen) k (before l) _ refl ∙ sym action-is
+      output-is = ap (λ (a : ArbiterState). a .«prev_output») arbiter-is ∙ output-kept (r .clock) hold (s .arbiter) (want seen) k (before l) _ refl ∙ sym action-is
 
       recovery-is : since (stepped .supervisor .arbiter) ≡ goesOn (before (line ∷ l))
       unfolding withChanges stepsOf
-      recovery-is = ap since arbiter-is ∙ since-kept hold (s .arbiter) (want seen) k (before l) faults wants shows (i .recovery) is-shown _ _ refl refl
+      recovery-is = ap since arbiter-is ∙ since-kept (r .clock) hold (s .arbiter) (want seen) k (before l) faults wants shows (i .recovery) is-shown _ _ refl refl
 
       pub agrees : Agrees (stepped .supervisor) (line ∷ l)
       agrees =
@@ -187,17 +184,17 @@ module _ (dist : Point2 → Float) (minAlt maxAlt : Float) (cfg : Config) where
             recovery = recovery-is;
           }
 
-  agrees-after : (fed : List Telemetry) → Agrees (stateAfter dist minAlt maxAlt cfg fed) (recordOf dist minAlt maxAlt cfg fed)
+  agrees-after : (fed : List Fed) → Agrees (stateAfter r fed) (recordOf r fed)
   unfolding stateAfter recordOf
   agrees-after [] = fresh-agrees
-  agrees-after (t ∷ earlier) = agrees (stateAfter dist minAlt maxAlt cfg earlier) t (recordOf dist minAlt maxAlt cfg earlier) (agrees-after earlier)
+  agrees-after (t ∷ earlier) = agrees (stateAfter r earlier) t (recordOf r earlier) (agrees-after earlier)
 
-  obeys-all : (fed : List Telemetry) → ObeysAll hold (stepsOf dist minAlt maxAlt cfg (recordOf dist minAlt maxAlt cfg fed))
+  obeys-all : (fed : List Fed) → ObeysAll (r .clock) hold (stepsOf r (recordOf r fed))
   unfolding stateAfter recordOf stepsOf
   obeys-all [] = tt
   obeys-all (t ∷ earlier) =
-      (step-obeys (stateAfter dist minAlt maxAlt cfg earlier) t (recordOf dist minAlt maxAlt cfg earlier) (agrees-after earlier), obeys-all earlier)
+      (step-obeys (stateAfter r earlier) t (recordOf r earlier) (agrees-after earlier), obeys-all earlier)
 
 -- the theorem
 pub ladder-claim : LadderClaim
-ladder-claim dist minAlt maxAlt cfg fed = obeys-all dist minAlt maxAlt cfg fed
+ladder-claim r fed = obeys-all r fed

@@ -1,6 +1,7 @@
 -- Short runs with the actions that the record allows: document 01's row of the table, and one run for each clause of 'Quiet stretch'. Assumes nothing.
 use Prim.Native.Nat.{ℕ}
 use mathlib.Core.Path.{_≡_}
+use Rattle.time.specs.Time.{wrapping}
 use mathlib.Core.Bool.{Bool, true, false}
 use mathlib.Core.List.{List, [], _∷_, map, reverse}
 use Rattle.types.specs.declared.Action.{Action}
@@ -31,8 +32,8 @@ showing action g earlier output =
     record {
       now = g .now;
       disarm = g .disarm;
-      faulted = faulted (g .now) readings;
-      third = third (g .now) readings;
+      faulted = faulted wrapping (g .now) readings;
+      third = third wrapping (g .now) readings;
       wanted = g .wanted;
       positionValid = g .positionValid;
       previousOutput = output;
@@ -48,7 +49,7 @@ unfoldable pub played : ℕ → List Given → List Step
 played hold [] = []
 played hold (g ∷ earlier) =
     let before = played hold earlier in
-    let action = allowed hold (showing Action.Nominal g earlier (lastOutput before)) (withChanges hold before) in
+    let action = allowed wrapping hold (showing Action.Nominal g earlier (lastOutput before)) (withChanges wrapping hold before) in
     showing action g earlier (lastOutput before) ∷ before
 
 -- the actions of a run, both in the order of time
@@ -84,3 +85,15 @@ pub record LadderInstances : Type 0 where
   pub thirds :
       actions 10 (at 100 Action.ReturnToLaunch ∷ at 110 Action.Warn ∷ at 50 Action.Warn ∷ at 60 Action.Warn ∷ at 70 Action.Warn ∷ at 120 Action.Warn ∷ at 130 Action.Warn ∷ [])
       ≡ Action.ReturnToLaunch ∷ Action.ReturnToLaunch ∷ Action.ReturnToLaunch ∷ Action.ReturnToLaunch ∷ Action.ReturnToLaunch ∷ Action.ReturnToLaunch ∷ Action.Warn ∷ []
+  -- "isn't Hold or ReturnToLaunch without position": Hold is wanted anew without position, and is changed to Land
+  pub holdLost :
+      actions 10 (at 0 Action.Nominal ∷ lost 10 Action.Hold ∷ [])
+      ≡ Action.Nominal ∷ Action.Land ∷ []
+  -- the stretch has lasted at 20, and Hold is wanted without position: Land, and nothing came down; the next stretch begins at 25
+  pub holdLostLasting :
+      actions 10 (at 0 Action.ReturnToLaunch ∷ at 10 Action.Hold ∷ lost 20 Action.Hold ∷ at 25 Action.Hold ∷ at 34 Action.Hold ∷ at 35 Action.Hold ∷ [])
+      ≡ Action.ReturnToLaunch ∷ Action.ReturnToLaunch ∷ Action.Land ∷ Action.Land ∷ Action.Land ∷ Action.Hold ∷ []
+  -- the clock is faulted at 50: ReturnToLaunch is kept, and without position is changed to Land
+  pub keptLost :
+      actions 10 (at 100 Action.ReturnToLaunch ∷ lost 50 Action.Warn ∷ [])
+      ≡ Action.ReturnToLaunch ∷ Action.Land ∷ []

@@ -1,14 +1,13 @@
 -- Document 01, 'Quiet stretch' and 'Run and record': the ladder as read off a record. Lists have the latest step first. Assumes nothing.
-use Prim.Native.Nat.{ℕ, zero, suc}
+use Prim.Native.Nat.{ℕ, zero, suc, _+_, _^_}
 use mathlib.Core.Bool.{Bool, true, false, not, _&&_, _||_, cond}
 use mathlib.Core.List.{List, [], _∷_, map}
-use lib.Dec.{ltb}
+use lib.Dec.{leb, ltb}
 use lib.ListN.{length, take}
 use Rattle.types.specs.declared.Action.{Action}
 use Rattle.types.specs.declared.OptionU32.{OptionU32}
 use Rattle.types.specs.Numbers.{rank}
-use Rattle.time.specs.Time.{holdMet}
-use Rattle.arbiter.specs.Arbiter.{needsPosition}
+use Rattle.time.specs.Time.{Clock, wrapping, plain, wrappingSub}
 
 -- a step as the record gives it (specs/Record.antt): nothing here is read from a state
 pub record Step : Type 0 where
@@ -41,6 +40,14 @@ wantsLess s = ranksBelow (s .wanted) (s .previousOutput)
 -- the term 'comes down': "its action ranks below the previous output"
 abbrev pub comesDown : Step → Bool
 comesDown s = ranksBelow (s .action) (s .previousOutput)
+
+-- "Hold or ReturnToLaunch", by name: nothing of the arbiter's
+abbrev pub isHoldOrReturn : Action → Bool
+isHoldOrReturn Action.Nominal = false
+isHoldOrReturn Action.Warn = false
+isHoldOrReturn Action.Hold = true
+isHoldOrReturn Action.ReturnToLaunch = true
+isHoldOrReturn Action.Land = false
 
 -- an earlier step, and whether it was changed to Land for lack of position
 pub record Earlier : Type 0 where
@@ -84,32 +91,34 @@ earliest (suc n) k before =
 unfoldable pub quietStretch : Step → List Earlier → OptionU32
 quietStretch k before = cond (sound k) (earliest (length before) k before) OptionU32.None
 
--- "how long ago is that reading's wrapping age at k"
-abbrev pub longAgo : OptionU32 → ℕ → ℕ → Bool
-longAgo OptionU32.None now hold = false
-longAgo (OptionU32.Some began) now hold = holdMet now began hold
+-- "how long ago is that reading's wrapping age at k": "began at least recovery_hold_ms and under 2^31 ms ago". On the clock that doesn't wrap there is
+-- "no upper limit on the quiet stretch".
+abbrev pub longAgo : Clock → OptionU32 → ℕ → ℕ → Bool
+longAgo clock OptionU32.None now hold = false
+longAgo wrapping (OptionU32.Some began) now hold = let ago = wrappingSub now began in leb hold ago && ltb ago (2 ^ 31)
+longAgo plain (OptionU32.Some began) now hold = leb (began + hold) now
 
--- "whether its quiet stretch has lasted": for recovery_hold_ms
-abbrev pub lasted : ℕ → Step → List Earlier → Bool
-lasted hold k before = longAgo (quietStretch k before) (k .now) hold
+-- "whether its quiet stretch has lasted as demand 3 asks"
+abbrev pub lasted : Clock → ℕ → Step → List Earlier → Bool
+lasted clock hold k before = longAgo clock (quietStretch k before) (k .now) hold
 
 -- ---- the arbiter's rule, "fed its wanted action, previous output, valid position, fault and whether its quiet stretch has lasted"
 
 -- before the look at the position
-abbrev pub candidate : ℕ → Step → List Earlier → Action
-candidate hold k before =
+abbrev pub candidate : Clock → ℕ → Step → List Earlier → Action
+candidate clock hold k before =
     cond (k .faulted) (k .previousOutput)
     (cond (not (wantsLess k)) (k .wanted)
-    (cond (lasted hold k before) (k .wanted)
+    (cond (lasted clock hold k before) (k .wanted)
     (k .previousOutput)))
 
 -- the term 'changed to Land': the rule "puts Land for Hold or ReturnToLaunch"
-abbrev pub changedToLand : ℕ → Step → List Earlier → Bool
-changedToLand hold k before = needsPosition (candidate hold k before) && not (k .positionValid)
+abbrev pub changedToLand : Clock → ℕ → Step → List Earlier → Bool
+changedToLand clock hold k before = isHoldOrReturn (candidate clock hold k before) && not (k .positionValid)
 
 -- each step of a record with whether it was changed to Land
-unfoldable pub withChanges : ℕ → List Step → List Earlier
-withChanges hold [] = []
-withChanges hold (k ∷ earlier) =
-    let before = withChanges hold earlier in
-    record { step = k; changedToLand = changedToLand hold k before } ∷ before
+unfoldable pub withChanges : Clock → ℕ → List Step → List Earlier
+withChanges clock hold [] = []
+withChanges clock hold (k ∷ earlier) =
+    let before = withChanges clock hold earlier in
+    record { step = k; changedToLand = changedToLand clock hold k before } ∷ before

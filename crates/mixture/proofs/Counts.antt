@@ -7,7 +7,7 @@ use lib.ListN.{length}
 use Rattle.types.specs.declared.Action.{Action}
 use Rattle.types.specs.declared.Request.{Request}
 use Rattle.types.specs.Numbers.{rank}
-use Rattle.time.specs.Time.{wrappingSub, age, holdMet}
+use Rattle.time.specs.Time.{Clock, wrapping, wrappingSub, age, holdMet}
 use Rattle.arbiter.specs.declared.ArbiterState.{ArbiterState}
 use Rattle.arbiter.specs.declared.Arbitrated.{Arbitrated}
 use Rattle.arbiter.specs.Arbiter.{needsPosition, recoveryStart, recover, applyPersistence, applyFeasibility, arbitrate}
@@ -26,20 +26,20 @@ cond-action : (b : Bool) (x y : Arbitrated) → cond b x y .output .action ≡ c
 cond-action true x y = refl
 cond-action false x y = refl
 
-persistence-shows : (s : ArbiterState) (now hold : ℕ) (want : Request) (f : Bool) → applyPersistence s now hold want f .output .action ≡ persisted (s .«prev_output») (want .action) f (holdMet now (recoveryStart (s .«recovery_since_ms») now) hold)
+persistence-shows : (clock : Clock) (s : ArbiterState) (now hold : ℕ) (want : Request) (f : Bool) → applyPersistence clock s now hold want f .output .action ≡ persisted (s .«prev_output») (want .action) f (holdMet clock now (recoveryStart (s .«recovery_since_ms») now) hold)
 unfolding applyPersistence recover
-persistence-shows s now hold want true = refl
-persistence-shows s now hold want false = simp cond-action
+persistence-shows clock s now hold want true = refl
+persistence-shows clock s now hold want false = simp cond-action
 
 feasibility-shows : (a : Arbitrated) (v : Bool) → applyFeasibility a v .output .action ≡ feasible (a .output .action) v
 unfolding applyFeasibility
 feasibility-shows a v = simp cond-action
 
-step-shows : (s : ArbiterState) (now hold : ℕ) (want : Request) (v f : Bool) → arbitrate s now hold want v f .output .action ≡ feasible (persisted (s .«prev_output») (want .action) f (holdMet now (recoveryStart (s .«recovery_since_ms») now) hold)) v
+step-shows : (clock : Clock) (s : ArbiterState) (now hold : ℕ) (want : Request) (v f : Bool) → arbitrate clock s now hold want v f .output .action ≡ feasible (persisted (s .«prev_output») (want .action) f (holdMet clock now (recoveryStart (s .«recovery_since_ms») now) hold)) v
 unfolding arbitrate
-step-shows s now hold want v f = rw (feasibility-shows, persistence-shows)
+step-shows clock s now hold want v f = rw (feasibility-shows, persistence-shows)
 
-reading-tells : (e : Bool) → holdMet (readingOf e) 0 1 ≡ e
+reading-tells : (e : Bool) → holdMet wrapping (readingOf e) 0 1 ≡ e
 unfolding wrappingSub age holdMet
 reading-tells true = refl
 reading-tells false = refl
@@ -49,7 +49,7 @@ unfolding actionShown
 mixture-shows p w v f e = rw (step-shows, reading-tells)
 
 any-step : AnyStep
-any-step s now hold want v f = rw (step-shows, mixture-shows)
+any-step clock s now hold want v f = rw (step-shows, mixture-shows)
 
 all : length mixtures ≡ 200
 all = refl

@@ -11,7 +11,7 @@ use Rattle.types.specs.declared.Reason.{Reason}
 use Rattle.types.specs.declared.Request.{Request}
 use Rattle.types.specs.declared.OptionU32.{OptionU32}
 use Rattle.types.specs.Numbers.{rank, actions}
-use Rattle.time.specs.Time.{holdMet}
+use Rattle.time.specs.Time.{Clock, wrapping, holdMet}
 use Rattle.arbiter.specs.declared.ArbiterState.{ArbiterState}
 use Rattle.arbiter.specs.Arbiter.{request, recoveryStart, arbitrate}
 use Rattle.mixture.specs.declared.Mixture.{Mixture}
@@ -31,16 +31,16 @@ before p = record { «prev_output» = p; «prev_reason» = Reason.None; «recove
 -- the action that one step shows
 unfoldable pub actionShown : Mixture → Action
 actionShown m =
-    arbitrate (before (m .previous)) (readingOf (m .«recovery_elapsed»)) 1 (request Reason.None (m .wanted)) (m .«position_valid») (m .«clock_fault»)
+    arbitrate wrapping (before (m .previous)) (readingOf (m .«recovery_elapsed»)) 1 (request Reason.None (m .wanted)) (m .«position_valid») (m .«clock_fault»)
     .output
     .action
 
--- reasons and readings play no part: any step shows what its mixture does
+-- reasons, readings and the clock play no part: any step shows what its mixture does
 abbrev pub AnyStep : Type 0
 AnyStep =
-    (s : ArbiterState) (now hold : ℕ) (want : Request) (v f : Bool) →
-    arbitrate s now hold want v f .output .action
-    ≡ actionShown (mixture (s .«prev_output») (want .action) v f (holdMet now (recoveryStart (s .«recovery_since_ms») now) hold))
+    (clock : Clock) (s : ArbiterState) (now hold : ℕ) (want : Request) (v f : Bool) →
+    arbitrate clock s now hold want v f .output .action
+    ≡ actionShown (mixture (s .«prev_output») (want .action) v f (holdMet clock now (recoveryStart (s .«recovery_since_ms») now) hold))
 
 abbrev pub each : {A : Type 0} → List A → (A → List Mixture) → List Mixture
 each [] f = []

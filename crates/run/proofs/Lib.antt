@@ -2,3 +2,4 @@
 pub mod Small
 pub mod Typed
 pub mod Run
+pub mod Instances

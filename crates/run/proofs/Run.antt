@@ -1,30 +1,30 @@
 -- Demand 3 for every list of calls of the step entry, by the ladder's claim for every list of steps: the state image after the calls is the state after the steps,
 -- and the record read off the bytes is the record of those steps. Assumes nothing.
-use Prim.Native.Nat.{ℕ}
+use Prim.Native.Nat.{ℕ, _≤_}
 use mathlib.Core.Bool.{Bool, true, false, cond}
 use mathlib.Core.List.{List, [], _∷_, _++_}
-use mathlib.Core.Logic.{_⊎_, ⊎-elim}
+use mathlib.Core.Logic.{_⊎_, ⊎-elim, inl, inr}
 use mathlib.Core.Path.{_≡_, refl, ap, sym, subst, _∙_}
 use lib.Dec.{eqb, ltb}
-use lib.Ieee.{Float}
-use lib.ListN.{length, drop}
+use lib.ListN.{length, take, drop}
+use lib.Seq.{take-append-le, take-length}
 use native.Mathlib.Omega.{arith}
 use borrow.Author.Tests.{eqb-true, eqb-false, eq-eqb, le-ltb}
-use Rattle.types.specs.declared.Point2.{Point2}
 use Rattle.types.specs.declared.Decision.{Decision}
-use Rattle.types.specs.declared.Telemetry.{Telemetry}
+use Rattle.time.specs.Time.{wrapping}
 use Rattle.types.proofs.Slots.{action-of-rank}
 use Rattle.geometry.specs.declared.SideLengths.{SideLengths}
-use Rattle.geometry.specs.Distance.{ringOf, sideLengths, signedDistance, signedDistanceBy}
+use Rattle.geometry.specs.Distance.{ringOf, sideLengths, signedDistanceBy}
 use Rattle.geometry.proofs.Lengths.{by-side-lengths}
 use Rattle.config.specs.declared.Config.{Config}
 use Rattle.supervisor.specs.declared.Supervisor.{Supervisor}
 use Rattle.supervisor.specs.declared.Stepped.{Stepped}
+use Rattle.supervisor.specs.Settings.{Site, Fed, baseSettings, fenceSite, fenceSiteBy, fedAt}
 use Rattle.supervisor.specs.Step.{freshSupervisor, step}
 use Rattle.supervisor.specs.Rules.{Rules}
 use Rattle.supervisor.proofs.Rules.{either, fresh-rules, step-rules}
 use Rattle.wire.specs.Fields.{Bytes, u8At, leBytes, le8, le16}
-use Rattle.wire.specs.Frame.{frameFault, frameHead, roomFault}
+use Rattle.wire.specs.Frame.{frameFault, frameHead, roomFault, frameWritten}
 use Rattle.options.specs.Enums.{actionOrNominal, actionAt, leAction}
 use Rattle.frame_config.specs.declared.ConfigRead.{ConfigRead}
 use Rattle.frame_config.specs.ConfigFrame.{readConfig}
@@ -39,12 +39,11 @@ use Rattle.frame_decision.specs.DecisionFrame.{decisionFrame}
 use Rattle.flight.specs.declared.Flight.{Flight}
 use Rattle.flight.specs.Flight.{acceptFlight, refusedFlight, afterConfig, readFlight, stepFlight}
 use Rattle.failsafe.specs.Entry.{StepCall, declined, succeeded, written, afterTelemetry, afterState, afterFlight, stepCall, freshCall}
-use Rattle.failsafe.proofs.Buffers.{state-written}
 use Rattle.failsafe.proofs.Declined.{declined-keeps}
 use Rattle.ladder.specs.Record.{Line, stateAfter, recordOf, stepsOf}
 use Rattle.ladder.specs.Claim.{ObeysAll}
 use Rattle.ladder.proofs.Run.{ladder-claim}
-use Rattle.run.specs.Run.{Call, shownAction, stateBytes, answered, UnderOne, fed, recordOfCalls, flight, dist, RunClaim}
+use Rattle.run.specs.Run.{Call, shownAction, flightOf, fedBy, stateBytes, answered, Under, UnderConfig, fed, recordOfCalls, RunClaim, SameFlight, OneFlightClaim}
 use Rattle.run.proofs.Typed.{fresh-typed, step-typed, read-now, read-position}
 
 -- ---- an accepted flight steps with the fence's own distance
@@ -61,10 +60,12 @@ flight-lengths config fence = at (readConfig config)
         (λ b. cond b (acceptFlight cfg read) (refusedFlight (read .refused)) .lengths ≡ sideLengths (ringOf (cond b (acceptFlight cfg read) (refusedFlight (read .refused)) .fence .poly)))
         refl refl (eqb (read .refused) 0)
 
-flight-distance : (config fence : List ℕ) → signedDistanceBy (ringOf (readFlight config fence .fence .poly)) (readFlight config fence .lengths .m) ≡ signedDistance (ringOf (readFlight config fence .fence .poly))
-flight-distance config fence =
-    let l = ringOf (readFlight config fence .fence .poly) in
-    ap (λ (m : SideLengths). signedDistanceBy l (m .m)) (flight-lengths config fence) ∙ (λ i p. by-side-lengths l p i)
+flight-site : (config fence : List ℕ) → fenceSiteBy (readFlight config fence .fence) (readFlight config fence .lengths) ≡ fenceSite (readFlight config fence .fence)
+flight-site config fence =
+    let g = readFlight config fence .fence in
+    let l = ringOf (g .poly) in
+    ap (fenceSiteBy g) (flight-lengths config fence)
+    ∙ (λ i. record { dist = λ p. by-side-lengths l p i; minAlt = g .«min_alt_m»; maxAlt = g .«max_alt_m» })
 
 -- ---- telemetry that is not refused is read, and an output that is not refused has room
 
@@ -92,103 +93,106 @@ action-shown d rest = ap actionOrNominal (action-of-rank (d .action))
 
 -- ---- a run begins with a fresh state
 
-begins : (slice : List ℕ) → length slice ≡ 186 → (freshCall slice .number ≡ 0) × (freshCall slice .state ≡ stateFrame freshSupervisor)
-unfolding freshCall roomFault
+begins : (slice : List ℕ) → 186 ≤ length slice → (freshCall slice .number ≡ 0) × (take 186 (freshCall slice .state) ≡ stateFrame freshSupervisor)
+unfolding freshCall roomFault frameWritten
 begins slice h =
     let s = state-size freshSupervisor in
-    (rw (le-ltb (length slice) (length (stateFrame freshSupervisor)) (omega arith)), state-written freshSupervisor slice h)
+    let n = le-ltb (length slice) (length (stateFrame freshSupervisor)) (omega arith) in
+    let f = stateFrame freshSupervisor in
+    (rw n, rw n (take-append-le 186 f (drop (length f) slice) (omega arith) ∙ ap (λ (m : ℕ). take m f) (sym s) ∙ take-length f))
 
-module _ (slice : List ℕ) (room : length slice ≡ 186) (config fence : List ℕ) (ok : flight config fence .refused ≡ 0) where
-  cfg : Config
-  cfg = flight config fence .cfg
+-- ---- a call that steps
 
-  lo : Float
-  lo = flight config fence .fence .«min_alt_m»
+-- it has an accepted flight
+accepts : (config fence state telemetry output : List ℕ) → stepCall config fence state telemetry output .number ≡ 0 → readFlight config fence .refused ≡ 0
+unfolding stepCall
+accepts config fence state telemetry output z = at (eqb (readFlight config fence .refused) 0) refl z
+  where
+    at : (b : Bool) → eqb (readFlight config fence .refused) 0 ≡ b → cond b (afterState (readState state) (readFlight config fence) state telemetry output) (declined (readFlight config fence .refused) state output) .number ≡ 0 → readFlight config fence .refused ≡ 0
+    at true e z = eqb-true _ _ e
+    at false e z = z
 
-  hi : Float
-  hi = flight config fence .fence .«max_alt_m»
+-- from a state image that is a state's
+stepped : (c : Call) (x : Supervisor) (state : List ℕ) → readState state ≡ StateRead.Frame x → stepCall (c .config) (c .fence) state (c .telemetry) (c .output) .number ≡ 0 → stepCall (c .config) (c .fence) state (c .telemetry) (c .output) ≡ succeeded (step (baseSettings (flightOf c .cfg)) x (fedBy c)) (c .output)
+unfolding stepCall stepFlight
+stepped c x state r z =
+    let telemetry = c .telemetry in
+    let output = c .output in
+    let f = flightOf c in
+    let next = stepFlight f x (telemetryAt telemetry) in
+    let a : afterFlight f state telemetry output ≡ afterTelemetry (readTelemetry telemetry) f x state output = rw (eq-eqb _ _ (accepts (c .config) (c .fence) state telemetry output z)) (ap (λ (q : StateRead). afterState q f state telemetry output) r) in
+    let b = telemetry-read f x telemetry state output (sym (ap (λ (q : StepCall). q .number) a) ∙ z) in
+    let w : afterFlight f state telemetry output ≡ written next state output = a ∙ ap (λ (q : TelemetryRead). afterTelemetry q f x state output) b in
+    w
+    ∙ roomy next state output (sym (ap (λ (q : StepCall). q .number) w) ∙ z)
+    ∙ ap (λ (site : Site). succeeded (step (baseSettings (f .cfg)) x (fedAt site (telemetryAt telemetry))) output) (flight-site (c .config) (c .fence))
 
-  after : List Telemetry → Supervisor
-  after ts = stateAfter (dist config fence) lo hi cfg ts
+module _ (slice : List ℕ) (room : 186 ≤ length slice) (cfg : Config) where
+  after : List Fed → Supervisor
+  after fs = stateAfter (baseSettings cfg) fs
 
   -- the state image, and the record, are those of the steps
-  record Agrees (bytes : List ℕ) (ts : List Telemetry) (lines : List Line) : Type 0 where
-    image : bytes ≡ stateFrame (after ts)
-    typed : Typed (after ts)
-    rules : Rules (after ts)
-    record-is : lines ≡ recordOf (dist config fence) lo hi cfg ts
+  record Agrees (bytes : List ℕ) (fs : List Fed) (lines : List Line) : Type 0 where
+    image : bytes ≡ stateFrame (after fs)
+    typed : Typed (after fs)
+    rules : Rules (after fs)
+    record-is : lines ≡ recordOf (baseSettings cfg) fs
 
-  -- a call that steps, from a state image that is a state's
-  stepped : (x : Supervisor) (state telemetry output : List ℕ) → readState state ≡ StateRead.Frame x → stepCall config fence state telemetry output .number ≡ 0 → stepCall config fence state telemetry output ≡ succeeded (step (dist config fence) lo hi cfg x (telemetryAt telemetry)) output
-  unfolding stepCall stepFlight cfg lo hi
-  stepped x state telemetry output r z =
-      let f = flight config fence in
-      let next = stepFlight f x (telemetryAt telemetry) in
-      let a : afterFlight f state telemetry output ≡ afterTelemetry (readTelemetry telemetry) f x state output = rw (eq-eqb _ _ ok) (ap (λ (q : StateRead). afterState q f state telemetry output) r) in
-      let b = telemetry-read f x telemetry state output (sym (ap (λ (q : StepCall). q .number) a) ∙ z) in
-      let w : afterFlight f state telemetry output ≡ written next state output = a ∙ ap (λ (q : TelemetryRead). afterTelemetry q f x state output) b in
-      w
-      ∙ roomy next state output (sym (ap (λ (q : StepCall). q .number) w) ∙ z)
-      ∙ ap (λ (d : Point2 → Float). succeeded (step d (f .fence .«min_alt_m») (f .fence .«max_alt_m») (f .cfg) x (telemetryAt telemetry)) output) (flight-distance config fence)
-
-  -- what such a call leaves: the next state's image, and the Decision's action in the output
-  abbrev Leaves : Supervisor → List ℕ → List ℕ → List ℕ → List ℕ → List ℕ → Type 0
-  Leaves x c f state telemetry output =
-      let next = step (dist config fence) lo hi cfg x (telemetryAt telemetry) in
-      stepCall c f state telemetry output .number ≡ 0
-      → (stepCall c f state telemetry output .state ≡ stateFrame (next .supervisor)) × (shownAction (stepCall c f state telemetry output .output) ≡ next .decision .action)
-
-  leaves : (x : Supervisor) (state telemetry output : List ℕ) → readState state ≡ StateRead.Frame x → Leaves x config fence state telemetry output
-  leaves x state telemetry output r z =
-      let is = stepped x state telemetry output r z in
-      let next = step (dist config fence) lo hi cfg x (telemetryAt telemetry) in (
-        ap (λ (q : StepCall). q .state) is,
-        ap (λ (q : StepCall). shownAction (q .output)) is ∙ action-shown (next .decision) (drop 95 output),
+  -- what a call that steps under this configuration leaves: the next state's image, and the Decision's action in the output
+  leaves : (x : Supervisor) (c : Call) (state : List ℕ) → flightOf c .cfg ≡ cfg → readState state ≡ StateRead.Frame x → stepCall (c .config) (c .fence) state (c .telemetry) (c .output) .number ≡ 0 → (stepCall (c .config) (c .fence) state (c .telemetry) (c .output) .state ≡ stateFrame (step (baseSettings cfg) x (fedBy c) .supervisor)) × (shownAction (stepCall (c .config) (c .fence) state (c .telemetry) (c .output) .output) ≡ step (baseSettings cfg) x (fedBy c) .decision .action)
+  leaves x c state same r z =
+      let is = stepped c x state r z in
+      let next = step (baseSettings (flightOf c .cfg)) x (fedBy c) in (
+        ap (λ (q : StepCall). q .state) is ∙ (λ i. stateFrame (step (baseSettings (same i)) x (fedBy c) .supervisor)),
+        ap (λ (q : StepCall). shownAction (q .output)) is ∙ action-shown (next .decision) (drop 95 (c .output)) ∙ (λ i. step (baseSettings (same i)) x (fedBy c) .decision .action),
       )
 
-  leaves-any : (x : Supervisor) (c : Call) (state : List ℕ) → c .config ≡ config → c .fence ≡ fence → readState state ≡ StateRead.Frame x → Leaves x (c .config) (c .fence) state (c .telemetry) (c .output)
-  leaves-any x c state p q r =
-      subst (λ (f : List ℕ). Leaves x (c .config) f state (c .telemetry) (c .output)) (sym q)
-      (subst (λ (d : List ℕ). Leaves x d fence state (c .telemetry) (c .output)) (sym p) (leaves x state (c .telemetry) (c .output) r))
-
-  next : (c : Call) (earlier : List Call) → Bytes (c .telemetry) → ((answered slice c earlier .number ≡ 0 → ⊥) ⊎ ((c .config ≡ config) × (c .fence ≡ fence))) → Agrees (stateBytes slice earlier) (fed slice earlier) (recordOfCalls slice earlier) → Agrees (stateBytes slice (c ∷ earlier)) (fed slice (c ∷ earlier)) (recordOfCalls slice (c ∷ earlier))
+  next : (c : Call) (earlier : List Call) → Bytes (c .telemetry) → ((answered slice c earlier .number ≡ 0 → ⊥) ⊎ (flightOf c .cfg ≡ cfg)) → Agrees (stateBytes slice earlier) (fed slice earlier) (recordOfCalls slice earlier) → Agrees (stateBytes slice (c ∷ earlier)) (fed slice (c ∷ earlier)) (recordOfCalls slice (c ∷ earlier))
   unfolding stateBytes fed recordOfCalls stateAfter recordOf after
   next c earlier bytes under i = at (eqb (answered slice c earlier .number) 0) refl
     where
-      t : Telemetry
-      t = telemetryAt (c .telemetry)
-
-      at : (b : Bool) → eqb (answered slice c earlier .number) 0 ≡ b → Agrees (answered slice c earlier .state) (cond b (t ∷ fed slice earlier) (fed slice earlier)) (cond b (record { fed = t; action = shownAction (answered slice c earlier .output) } ∷ recordOfCalls slice earlier) (recordOfCalls slice earlier))
+      at : (b : Bool) → eqb (answered slice c earlier .number) 0 ≡ b → Agrees (answered slice c earlier .state) (cond b (fedBy c ∷ fed slice earlier) (fed slice earlier)) (cond b (record { fed = fedBy c; action = shownAction (answered slice c earlier .output) } ∷ recordOfCalls slice earlier) (recordOfCalls slice earlier))
       at false e = record { image = declined-keeps (c .config) (c .fence) (stateBytes slice earlier) (c .telemetry) (c .output) e .0 ∙ i .image; typed = i .typed; rules = i .rules; record-is = i .record-is }
       at true e =
           let z = eqb-true (answered slice c earlier .number) 0 e in
-          let one = ⊎-elim (λ n. absurd (n z)) (λ (o : (c .config ≡ config) × (c .fence ≡ fence)). o) under in
+          let one = ⊎-elim (λ n. absurd (n z)) (λ (o : flightOf c .cfg ≡ cfg). o) under in
           let x = after (fed slice earlier) in
           let r = ap readState (i .image) ∙ value-back x (i .typed) (i .rules) in
-          let l = leaves-any x c (stateBytes slice earlier) (one .0) (one .1) r z in
+          let l = leaves x c (stateBytes slice earlier) one r z in
           record {
             image = l .0;
-            typed = step-typed (dist config fence) lo hi cfg x t (i .typed) (read-now (c .telemetry) bytes) (read-position (c .telemetry) bytes);
-            rules = step-rules (dist config fence) lo hi cfg x t (i .rules);
-            record-is = λ j. record { fed = t; action = l .1 j } ∷ i .record-is j;
+            typed = step-typed (baseSettings cfg) x (fedBy c) (i .typed) (read-now (c .telemetry) bytes) (read-position (c .telemetry) bytes);
+            rules = step-rules (baseSettings cfg) x (fedBy c) (i .rules);
+            record-is = λ j. record { fed = fedBy c; action = l .1 j } ∷ i .record-is j;
           }
 
-  agrees : (calls : List Call) → UnderOne slice config fence calls → Agrees (stateBytes slice calls) (fed slice calls) (recordOfCalls slice calls)
+  agrees : (calls : List Call) → UnderConfig slice cfg calls → Agrees (stateBytes slice calls) (fed slice calls) (recordOfCalls slice calls)
   unfolding stateBytes fed recordOfCalls stateAfter recordOf after
   agrees [] u = record { image = begins slice room .1; typed = fresh-typed; rules = fresh-rules; record-is = refl }
   agrees (c ∷ earlier) u = next c earlier (u .0) (u .1 .0) (agrees earlier (u .1 .1))
 
 -- the theorem
 pub run-claim : RunClaim
-unfolding cfg lo hi after
-run-claim slice room config fence ok calls u =
-    let a = agrees slice room config fence ok calls u in
+unfolding after
+run-claim slice room cfg calls u =
+    let a = agrees slice room cfg calls u in
     record {
       begun = begins slice room .0;
       ladder =
           subst
-          (λ (l : List Line). ObeysAll (flight config fence .cfg .«recovery_hold_ms») (stepsOf (dist config fence) (flight config fence .fence .«min_alt_m») (flight config fence .fence .«max_alt_m») (flight config fence .cfg) l))
+          (λ (l : List Line). ObeysAll wrapping (cfg .«recovery_hold_ms») (stepsOf (baseSettings cfg) l))
           (sym (a .record-is))
-          (ladder-claim (dist config fence) (flight config fence .fence .«min_alt_m») (flight config fence .fence .«max_alt_m») (flight config fence .cfg) (fed slice calls));
+          (ladder-claim (baseSettings cfg) (fed slice calls));
       accepted = ap readState (a .image) ∙ value-back _ (a .typed) (a .rules);
     }
+
+-- calls that step under a weaker condition
+weaker : (slice : List ℕ) (P Q : Flight → Type 0) → ((f : Flight) → P f → Q f) → (calls : List Call) → Under slice P calls → Under slice Q calls
+weaker slice P Q h [] u = tt
+weaker slice P Q h (c ∷ earlier) u = (u .0, (⊎-elim (λ (n : answered slice c earlier .number ≡ 0 → ⊥). inl n) (λ (p : P (flightOf c)). inr (h (flightOf c) p)) (u .1 .0), weaker slice P Q h earlier (u .1 .1)))
+
+-- its case of one accepted configuration and fence
+pub one-flight-claim : OneFlightClaim
+one-flight-claim slice room config fence ok calls u =
+    run-claim slice room (readFlight config fence .cfg) calls
+    (weaker slice (SameFlight (readFlight config fence)) (λ (f : Flight). f .cfg ≡ readFlight config fence .cfg) (λ f s. s .0) calls u)

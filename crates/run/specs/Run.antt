@@ -1,16 +1,15 @@
 -- Document 01, 'Run and record', about the bytes that the C host hands over. Lists have the latest call first. Assumes nothing.
-use Prim.Native.Nat.{ℕ}
+use Prim.Native.Nat.{ℕ, _≤_}
 use mathlib.Core.Bool.{Bool, cond}
 use mathlib.Core.List.{List, [], _∷_}
 use mathlib.Core.Logic.{_⊎_}
 use mathlib.Core.Path.{_≡_}
-use lib.Dec.{eqb, ltb}
-use lib.Ieee.{Float}
-use lib.ListN.{length}
+use lib.Dec.{eqb}
+use lib.ListN.{length, take}
 use Rattle.types.specs.declared.Action.{Action}
-use Rattle.types.specs.declared.Point2.{Point2}
-use Rattle.types.specs.declared.Telemetry.{Telemetry}
-use Rattle.geometry.specs.Distance.{ringOf, signedDistance}
+use Rattle.time.specs.Time.{wrapping}
+use Rattle.config.specs.declared.Config.{Config}
+use Rattle.supervisor.specs.Settings.{Fed, baseSettings, fenceSite, fedAt}
 use Rattle.wire.specs.Fields.{Bytes}
 use Rattle.options.specs.Enums.{actionAt}
 use Rattle.frame_state.specs.declared.StateRead.{StateRead}
@@ -33,19 +32,19 @@ pub record Call : Type 0 where
 abbrev pub shownAction : List ℕ → Action
 shownAction output = actionAt output 4
 
-module _ (config fence : List ℕ) where
-  abbrev pub flight : Flight
-  flight = readFlight config fence
+-- the configuration and fence that a call reads
+abbrev pub flightOf : Call → Flight
+flightOf c = readFlight (c .config) (c .fence)
 
-  -- the fence's distance
-  abbrev pub dist : Point2 → Float
-  dist = signedDistance (ringOf (flight .fence .poly))
+-- "all it was fed but the state": its telemetry, and its own fence
+abbrev pub fedBy : Call → Fed
+fedBy c = fedAt (fenceSite (flightOf c .fence)) (telemetryAt (c .telemetry))
 
 -- a run begins with the state slice that is handed to the fresh entry
 module _ (slice : List ℕ) where
-  -- "Each call gets the state that the last one returned or, declining, left"; the first gets what the fresh entry left
+  -- "Each call gets the state that the last one returned or, declining, left"; the first gets "the first 186 bytes" of what the fresh entry left
   unfoldable pub stateBytes : List Call → List ℕ
-  stateBytes [] = freshCall slice .state
+  stateBytes [] = take 186 (freshCall slice .state)
   stateBytes (c ∷ earlier) = stepCall (c .config) (c .fence) (stateBytes earlier) (c .telemetry) (c .output) .state
 
   -- a call after earlier ones: its number and buffers
@@ -56,36 +55,49 @@ module _ (slice : List ℕ) where
   abbrev pub isStep : Call → List Call → Bool
   isStep c earlier = eqb (answered c earlier .number) 0
 
-  -- "under one accepted configuration and fence": each call that steps has them, and each that is declined "may come with any bytes beside that state"
-  abbrev pub UnderOne : List ℕ → List ℕ → List Call → Type 0
-  UnderOne config fence [] = Unit {0}
-  UnderOne config fence (c ∷ earlier) =
-      Bytes (c .telemetry)
-      × (((answered c earlier .number ≡ 0 → ⊥) ⊎ ((c .config ≡ config) × (c .fence ≡ fence)))
-      × UnderOne config fence earlier)
+  -- each call is bytes, and those that step meet a condition; one that is declined "may come with any bytes beside that state"
+  abbrev pub Under : (Flight → Type 0) → List Call → Type 0
+  Under P [] = Unit {0}
+  Under P (c ∷ earlier) = Bytes (c .telemetry) × (((answered c earlier .number ≡ 0 → ⊥) ⊎ P (flightOf c)) × Under P earlier)
 
-  -- the telemetry that the steps were fed
-  unfoldable pub fed : List Call → List Telemetry
+  -- each call that steps reads this configuration, by whatever bytes and beside whatever fence
+  abbrev pub UnderConfig : Config → List Call → Type 0
+  UnderConfig cfg calls = Under (λ (f : Flight). f .cfg ≡ cfg) calls
+
+  -- what the steps were fed
+  unfoldable pub fed : List Call → List Fed
   fed [] = []
-  fed (c ∷ earlier) = cond (isStep c earlier) (telemetryAt (c .telemetry) ∷ fed earlier) (fed earlier)
+  fed (c ∷ earlier) = cond (isStep c earlier) (fedBy c ∷ fed earlier) (fed earlier)
 
   -- "The record holds, for each step, all it was fed but the state, and the action its Decision shows"
   unfoldable pub recordOfCalls : List Call → List Line
   recordOfCalls [] = []
   recordOfCalls (c ∷ earlier) =
       cond (isStep c earlier)
-      (record { fed = telemetryAt (c .telemetry); action = shownAction (answered c earlier .output) } ∷ recordOfCalls earlier)
+      (record { fed = fedBy c; action = shownAction (answered c earlier .output) } ∷ recordOfCalls earlier)
       (recordOfCalls earlier)
 
   -- what holds of a run
-  pub record RunObeys (config fence : List ℕ) (calls : List Call) : Type 0 where
+  pub record RunObeys (cfg : Config) (calls : List Call) : Type 0 where
     -- the fresh entry answers 0
     pub begun : freshCall slice .number ≡ 0
     -- demand 3, read off the record alone
-    pub ladder : ObeysAll (flight config fence .cfg .«recovery_hold_ms») (stepsOf (dist config fence) (flight config fence .fence .«min_alt_m») (flight config fence .fence .«max_alt_m») (flight config fence .cfg) (recordOfCalls calls))
+    pub ladder : ObeysAll wrapping (cfg .«recovery_hold_ms») (stepsOf (baseSettings cfg) (recordOfCalls calls))
     -- the state image is always accepted again: no run is declined for its own state
-    pub accepted : readState (stateBytes calls) ≡ StateRead.Frame (stateAfter (dist config fence) (flight config fence .fence .«min_alt_m») (flight config fence .fence .«max_alt_m») (flight config fence .cfg) (fed calls))
+    pub accepted : readState (stateBytes calls) ≡ StateRead.Frame (stateAfter (baseSettings cfg) (fed calls))
 
--- "for every list": every state slice of a frame's 186 bytes, every accepted configuration and fence, every list of calls, declined ones with any bytes among them
+-- "for every list": every state slice of at least a frame's 186 bytes, every configuration, every list of calls, each with its own fence, declined ones with any bytes among them
 abbrev pub RunClaim : Type 0
-RunClaim = (slice : List ℕ) → length slice ≡ 186 → (config fence : List ℕ) → flight config fence .refused ≡ 0 → (calls : List Call) → UnderOne slice config fence calls → RunObeys slice config fence calls
+RunClaim = (slice : List ℕ) → 186 ≤ length slice → (cfg : Config) (calls : List Call) → UnderConfig slice cfg calls → RunObeys slice cfg calls
+
+-- "under one accepted configuration and fence", by what is read and accepted: the bytes may differ
+abbrev pub SameFlight : Flight → Flight → Type 0
+SameFlight g f = (f .cfg ≡ g .cfg) × (f .fence ≡ g .fence)
+
+-- document 01's claim: the case of one fence
+abbrev pub OneFlightClaim : Type 0
+OneFlightClaim =
+    (slice : List ℕ) → 186 ≤ length slice
+    → (config fence : List ℕ) → readFlight config fence .refused ≡ 0
+    → (calls : List Call) → Under slice (SameFlight (readFlight config fence)) calls
+    → RunObeys slice (readFlight config fence .cfg) calls

@@ -7,7 +7,6 @@ use lib.Dec.{leb, ltb, lit≤}
 use lib.Ieee.{Float}
 use borrow.Author.Tests.{leb-false}
 use Rattle.float32.specs.Libm.{isFinite}
-use Rattle.types.specs.declared.Point2.{Point2}
 use Rattle.types.specs.declared.Vec3.{Vec3}
 use Rattle.types.specs.declared.OptionU32.{OptionU32}
 use Rattle.types.specs.declared.OptionAction.{OptionAction}
@@ -15,7 +14,7 @@ use Rattle.types.specs.declared.OptionF32.{OptionF32}
 use Rattle.types.specs.declared.PositionSample.{PositionSample}
 use Rattle.types.specs.declared.OptionPositionSample.{OptionPositionSample}
 use Rattle.types.specs.declared.Telemetry.{Telemetry}
-use Rattle.time.specs.Time.{age}
+use Rattle.time.specs.Time.{Clock, age}
 use Rattle.config.specs.declared.Config.{Config}
 use Rattle.validate.specs.declared.GlitchState.{GlitchState}
 use Rattle.validate.specs.declared.Filtered.{Filtered}
@@ -29,6 +28,7 @@ use Rattle.triggers.specs.Timer.{cleared, heldSet}
 use Rattle.triggers.specs.Families.{gcsAge, gcsStage, gcsClearing, gcsLink}
 use Rattle.triggers.specs.Update.{freshTriggers, withoutGcsTimer, families, nextTriggers, update}
 use Rattle.supervisor.specs.declared.Supervisor.{Supervisor}
+use Rattle.supervisor.specs.Settings.{Settings, Fed}
 use Rattle.supervisor.specs.Clock.{clockFault, soundClock, byAge, clockStep}
 use Rattle.supervisor.specs.Step.{freshSupervisor, triggersAfter, arbiterAfter, glitchAfter, sense, disarmed, flown, step}
 use Rattle.supervisor.specs.Rules.{finiteVec, finiteStored, Rules}
@@ -87,12 +87,12 @@ refused g =
     }
 
 -- the filter stores what it is given, or keeps what it had
-filter-finite : (g : GlitchState) (now : ℕ) (p : OptionPositionSample) (v : Float) → finiteStored (g .«last_accepted») ≡ true → finiteStored p ≡ true → finiteStored (applyGlitchFilter g now p v .glitch .«last_accepted») ≡ true
+filter-finite : (ck : Clock) (g : GlitchState) (now : ℕ) (p : OptionPositionSample) (v : Float) → finiteStored (g .«last_accepted») ≡ true → finiteStored p ≡ true → finiteStored (applyGlitchFilter ck g now p v .glitch .«last_accepted») ≡ true
 unfolding applyGlitchFilter stored refused
-filter-finite g now OptionPositionSample.None v hg hp = hg
-filter-finite g now (OptionPositionSample.Some s) v hg hp =
+filter-finite ck g now OptionPositionSample.None v hg hp = hg
+filter-finite ck g now (OptionPositionSample.Some s) v hg hp =
     either (λ b. finiteStored (cond b (stored s) (refused g) .glitch .«last_accepted») ≡ true) hp hg
-    (acceptStored (g .«last_accepted») (g .«reject_streak») now s v)
+    (acceptStored ck (g .«last_accepted») (g .«reject_streak») now s v)
 
 -- ---- the clock's row of faults
 
@@ -104,11 +104,11 @@ fault-streak last epoch streak now = at (leb 3 (streak + 1)) refl
     at true h = lit≤ tt
     at false h = let g = leb-false 3 (streak + 1) h in omega arith
 
-clock-streak : (last : OptionU32) (epoch streak : ℕ) (init : Bool) (now : ℕ) → streak ≤ 2 → clockStep last epoch streak init now .«backwards_streak» ≤ 2
+clock-streak : (ck : Clock) (last : OptionU32) (epoch streak : ℕ) (init : Bool) (now : ℕ) → streak ≤ 2 → clockStep ck last epoch streak init now .«backwards_streak» ≤ 2
 unfolding clockStep soundClock
-clock-streak last epoch streak false now h = lit≤ tt
-clock-streak OptionU32.None epoch streak true now h = h
-clock-streak (OptionU32.Some last) epoch streak true now h = at (age now last)
+clock-streak ck last epoch streak false now h = lit≤ tt
+clock-streak ck OptionU32.None epoch streak true now h = h
+clock-streak ck (OptionU32.Some last) epoch streak true now h = at (age ck now last)
   where
     at : (a : OptionU32) → byAge a last epoch streak now .«backwards_streak» ≤ 2
     at OptionU32.None = fault-streak last epoch streak now
@@ -116,27 +116,27 @@ clock-streak (OptionU32.Some last) epoch streak true now h = at (age now last)
 
 -- ---- the link's stage
 
-stage-clearing : (t : Timer) (stage now hold : ℕ) → stage ≤ 3 → gcsClearing t stage now hold .stage ≤ 3
+stage-clearing : (ck : Clock) (t : Timer) (stage now hold : ℕ) → stage ≤ 3 → gcsClearing ck t stage now hold .stage ≤ 3
 unfolding gcsClearing
-stage-clearing t stage now hold h = either (λ b. cond b 0 stage ≤ 3) (lit≤ tt) h (heldSet t now true hold .met)
+stage-clearing ck t stage now hold h = either (λ b. cond b 0 stage ≤ 3) (lit≤ tt) h (heldSet ck t now true hold .met)
 
-stage-link : (t : Timer) (stage now : ℕ) (hb : OptionU32) (cfg : Config) → stage ≤ 3 → gcsLink t stage now hb cfg .stage ≤ 3
+stage-link : (ck : Clock) (t : Timer) (stage now : ℕ) (hb : OptionU32) (cfg : Config) → stage ≤ 3 → gcsLink ck t stage now hb cfg .stage ≤ 3
 unfolding gcsLink gcsStage
-stage-link t stage now hb cfg h =
-    let a = gcsAge now hb in
+stage-link ck t stage now hb cfg h =
+    let a = gcsAge ck now hb in
     at (ltb (cfg .«gcs_rtl_ms») a) (ltb (cfg .«gcs_hold_ms») a) (ltb (cfg .«gcs_warn_ms») a) (leb a (cfg .«gcs_clear_ms»))
   where
-    at : (p q r s : Bool) → cond p (gcsStage t 3) (cond q (gcsStage t 2) (cond r (gcsStage t 1) (cond s (gcsClearing t stage now (cfg .«gcs_clear_hold_ms»)) (record { «clear_timer» = cleared; stage = stage; request = OptionAction.None })))) .stage ≤ 3
+    at : (p q r s : Bool) → cond p (gcsStage t 3) (cond q (gcsStage t 2) (cond r (gcsStage t 1) (cond s (gcsClearing ck t stage now (cfg .«gcs_clear_hold_ms»)) (record { «clear_timer» = cleared; stage = stage; request = OptionAction.None })))) .stage ≤ 3
     at true q r s = lit≤ tt
     at false true r s = lit≤ tt
     at false false true s = lit≤ tt
-    at false false false true = stage-clearing t stage now (cfg .«gcs_clear_hold_ms») h
+    at false false false true = stage-clearing ck t stage now (cfg .«gcs_clear_hold_ms») h
     at false false false false = h
 
-stage-update : (s : TriggerState) (t : Telemetry) (cfg : Config) (lo hi : Float) (p : OptionPlace) (m : OptionF32) (i f : Bool) → s .«gcs_stage» ≤ 3 → update s t cfg lo hi p m i f .triggers .«gcs_stage» ≤ 3
+stage-update : (ck : Clock) (s : TriggerState) (t : Telemetry) (cfg : Config) (lo hi : Float) (p : OptionPlace) (m : OptionF32) (i f : Bool) → s .«gcs_stage» ≤ 3 → update ck s t cfg lo hi p m i f .triggers .«gcs_stage» ≤ 3
 unfolding update families nextTriggers
-stage-update s t cfg lo hi p m i true h = h
-stage-update s t cfg lo hi p m i false h = stage-link (s .«gcs_clear_timer») (s .«gcs_stage») (t .«now_ms») (t .«gcs_heartbeat_ms») cfg h
+stage-update ck s t cfg lo hi p m i true h = h
+stage-update ck s t cfg lo hi p m i false h = stage-link ck (s .«gcs_clear_timer») (s .«gcs_stage») (t .«now_ms») (t .«gcs_heartbeat_ms») cfg h
 
 -- ---- a step
 
@@ -153,22 +153,24 @@ stored-third : (third : Bool) (g : GlitchState) → finiteStored (g .«last_acce
 stored-third true g h = refl
 stored-third false g h = h
 
-pub step-rules : (dist : Point2 → Float) (lo hi : Float) (cfg : Config) (s : Supervisor) (raw : Telemetry) → Rules s → Rules (step dist lo hi cfg s raw .supervisor)
+pub step-rules : (r : Settings) (s : Supervisor) (fed : Fed) → Rules s → Rules (step r s fed .supervisor)
 unfolding step disarmed flown sense freshTriggers validateTelemetry
-step-rules dist lo hi cfg s raw h =
-    let clock = clockStep (s .«last_now») (s .«epoch_start») (s .«backwards_streak») (s .initialized) (raw .«now_ms») in
+step-rules r s fed h =
+    let raw = fed .telemetry in
+    let cfg = r .cfg in
+    let clock = clockStep (r .clock) (s .«last_now») (s .«epoch_start») (s .«backwards_streak») (s .initialized) (raw .«now_ms») in
     let v = validateTelemetry raw (cfg .«usable_capacity_wh») in
     let t = v .telemetry in
     let glitch = glitchAfter (clock .third) (s .glitch) in
-    let streak : clock .«backwards_streak» ≤ 2 = clock-streak (s .«last_now») (s .«epoch_start») (s .«backwards_streak») (s .initialized) (raw .«now_ms») (h .streak) in
+    let streak : clock .«backwards_streak» ≤ 2 = clock-streak (r .clock) (s .«last_now») (s .«epoch_start») (s .«backwards_streak») (s .initialized) (raw .«now_ms») (h .streak) in
     let stored : finiteStored (glitch .«last_accepted») ≡ true = stored-third (clock .third) (s .glitch) (h .stored) in
-    let sensed = sense dist lo hi (triggersAfter (clock .third) (s .triggers)) glitch t (v .«invalid_input») cfg (clock .fault) in
+    let sensed = sense r (fed .site) (triggersAfter (clock .third) (s .triggers)) glitch t (v .«invalid_input») (clock .fault) in
     either
-    (λ b. Rules (cond b (disarmed cfg clock glitch) (flown sensed (arbiterAfter (clock .third) (s .arbiter)) (s .disarm) clock t cfg) .supervisor))
+    (λ b. Rules (cond b (disarmed cfg clock glitch) (flown r sensed (arbiterAfter (clock .third) (s .arbiter)) (s .disarm) clock t) .supervisor))
     (record { stage = lit≤ tt; streak = streak; stored = stored })
     (record {
-      stage = stage-update _ _ _ _ _ _ _ _ (clock .fault) (stage-third (clock .third) (s .triggers) (h .stage));
+      stage = stage-update (r .clock) _ _ _ _ _ _ _ _ (clock .fault) (stage-third (clock .third) (s .triggers) (h .stage));
       streak = streak;
-      stored = filter-finite glitch (t .«now_ms») (t .position) (cfg .«v_max») stored (kept-finite (raw .position));
+      stored = filter-finite (r .clock) glitch (t .«now_ms») (t .position) (cfg .«v_max») stored (kept-finite (raw .position));
     })
-    (confirmedDisarm (t .«now_ms») (t .armed) (cfg .«status_fresh_ms»))
+    (confirmedDisarm (r .clock) (t .«now_ms») (t .armed) (cfg .«status_fresh_ms»))

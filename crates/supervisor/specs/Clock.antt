@@ -3,7 +3,7 @@ use Prim.Native.Nat.{ℕ, _+_}
 use mathlib.Core.Bool.{Bool, true, false, cond}
 use lib.Dec.{leb, ltb}
 use Rattle.types.specs.declared.OptionU32.{OptionU32}
-use Rattle.time.specs.Time.{age}
+use Rattle.time.specs.Time.{Clock, age}
 use Rattle.supervisor.specs.declared.ClockStep.{ClockStep}
 
 -- "A clock fault leaves last_now as it was, also at every third in a row, which .. sets epoch_start to the reading and begins the count anew."
@@ -28,11 +28,11 @@ abbrev pub byAge : OptionU32 → ℕ → ℕ → ℕ → ℕ → ClockStep
 byAge OptionU32.None last epoch streak now = clockFault last epoch streak now
 byAge (OptionU32.Some a) last epoch streak now = soundClock epoch 0 now
 
-abbrev pub byLast : OptionU32 → ℕ → ℕ → ℕ → ClockStep
-byLast OptionU32.None epoch streak now = soundClock epoch streak now
-byLast (OptionU32.Some last) epoch streak now = byAge (age now last) last epoch streak now
+abbrev pub byLast : Clock → OptionU32 → ℕ → ℕ → ℕ → ClockStep
+byLast ck OptionU32.None epoch streak now = soundClock epoch streak now
+byLast ck (OptionU32.Some last) epoch streak now = byAge (age ck now last) last epoch streak now
 
 -- "the first is sound", and begins the epoch
-unfoldable pub clockStep : OptionU32 → ℕ → ℕ → Bool → ℕ → ClockStep
-clockStep last epoch streak false now = soundClock now 0 now
-clockStep last epoch streak true now = byLast last epoch streak now
+unfoldable pub clockStep : Clock → OptionU32 → ℕ → ℕ → Bool → ℕ → ClockStep
+clockStep ck last epoch streak false now = soundClock now 0 now
+clockStep ck last epoch streak true now = byLast ck last epoch streak now

@@ -1,5 +1,5 @@
 -- One step of the supervisor: what is sensed, then what is shown. Assumes nothing.
--- `dist` is the distance from the fence at a point: every definition that reads it takes it as an argument.
+-- `Settings` is what a run keeps, `Fed` what a step is fed (specs/Settings.antt): document 01's step is the one at `baseSettings` and a fence's site.
 use Prim.Native.Nat.{ℕ}
 use mathlib.Core.Bool.{Bool, true, false, cond}
 use lib.Ieee.{Float}
@@ -39,6 +39,7 @@ use Rattle.supervisor.specs.declared.SupervisorResult.{SupervisorResult}
 use Rattle.supervisor.specs.declared.ClockStep.{ClockStep}
 use Rattle.supervisor.specs.declared.Sensed.{Sensed}
 use Rattle.supervisor.specs.declared.Stepped.{Stepped}
+use Rattle.supervisor.specs.Settings.{Settings, Site, Fed}
 use Rattle.supervisor.specs.Clock.{clockStep}
 
 -- ---- a new supervisor
@@ -104,26 +105,26 @@ abbrev pub distOf : OptionPlace → OptionF32
 distOf OptionPlace.None = OptionF32.None
 distOf (OptionPlace.Some p) = OptionF32.Some (p .«fence_dist_m»)
 
-module _ (dist : Point2 → Float) (minAlt maxAlt : Float) where
-  -- filter, valid position, energy, triggers, requests: all that is read off validated telemetry
-  unfoldable pub sense : TriggerState → GlitchState → Telemetry → Bool → Config → Bool → Sensed
-  sense triggers glitch t invalid cfg fault =
-      let now = t .«now_ms» in
-      let f = applyGlitchFilter glitch now (t .position) (cfg .«v_max») in
-      let valid = positionValid now (f .position) (t .«ekf_ok») (cfg .«pos_fresh_ms») (cfg .«status_fresh_ms») in
-      let remaining = freshRemainingWh now (t .battery) (cfg .«battery_fresh_ms») (cfg .«usable_capacity_wh») in
-      let place = placeOf dist (f .position) in
-      let estimate = energyAt cfg place remaining in
-      let u = update triggers t cfg minAlt maxAlt (validPlace valid place) (marginAt place (estimate .«margin_wh»)) invalid fault in
-      record {
-        triggers = u .triggers;
-        glitch = f .glitch;
-        active = u .active;
-        requested = requestedAction (u .active .reqs);
-        «position_valid» = valid;
-        energy = estimate;
-        «fence_dist_m» = distOf place;
-      }
+-- filter, valid position, energy, triggers, requests: all that is read off validated telemetry
+unfoldable pub sense : Settings → Site → TriggerState → GlitchState → Telemetry → Bool → Bool → Sensed
+sense r site triggers glitch t invalid fault =
+    let now = t .«now_ms» in
+    let cfg = r .cfg in
+    let f = applyGlitchFilter (r .clock) glitch now (t .position) (cfg .«v_max») in
+    let valid = positionValid (r .clock) now (f .position) (t .«ekf_ok») (cfg .«pos_fresh_ms») (cfg .«status_fresh_ms») in
+    let remaining = freshRemainingWh (r .clock) now (t .battery) (cfg .«battery_fresh_ms») (cfg .«usable_capacity_wh») in
+    let place = placeOf (site .dist) (f .position) in
+    let estimate = energyAt cfg place remaining in
+    let u = update (r .clock) triggers t cfg (site .minAlt) (site .maxAlt) (validPlace valid place) (marginAt place (estimate .«margin_wh»)) invalid fault in
+    record {
+      triggers = u .triggers;
+      glitch = f .glitch;
+      active = u .active;
+      requested = requestedAction (u .active .reqs);
+      «position_valid» = valid;
+      energy = estimate;
+      «fence_dist_m» = distOf place;
+    }
 
 -- ---- confirmed disarm
 
@@ -177,12 +178,13 @@ decisionOf s output fault eligible =
     }
 
 -- the wanted action goes through the arbiter, the requested one to the gate
-unfoldable pub flown : Sensed → ArbiterState → DisarmGate → ClockStep → Telemetry → Config → Stepped
-flown s arbiter gate clock t cfg =
+unfoldable pub flown : Settings → Sensed → ArbiterState → DisarmGate → ClockStep → Telemetry → Stepped
+flown r s arbiter gate clock t =
     let now = t .«now_ms» in
+    let cfg = r .cfg in
     let want = wanted (s .requested) (s .triggers .«battery_critical_latched») (s .triggers .«energy_infeasible_latched») in
-    let a = arbitrate arbiter now (cfg .«recovery_hold_ms») want (s .«position_valid») (clock .fault) in
-    let e = evaluate gate now (t .armed) (t .landed) (cfg .«status_fresh_ms») (cfg .«disarm_hold_ms») (s .requested .action) (clock .fault) in
+    let a = arbitrate (r .clock) arbiter now (cfg .«recovery_hold_ms») want (s .«position_valid») (clock .fault) in
+    let e = evaluate (r .clock) gate now (t .armed) (t .landed) (cfg .«status_fresh_ms») (cfg .«disarm_hold_ms») (s .requested .action) (clock .fault) in
     record {
       supervisor =
           record {
@@ -198,19 +200,19 @@ flown s arbiter gate clock t cfg =
       decision = decisionOf s (a .output) (clock .fault) (e .eligible);
     }
 
-module _ (dist : Point2 → Float) (minAlt maxAlt : Float) where
-  unfoldable pub step : Config → Supervisor → Telemetry → Stepped
-  step cfg s raw =
-      let clock = clockStep (s .«last_now») (s .«epoch_start») (s .«backwards_streak») (s .initialized) (raw .«now_ms») in
-      let v = validateTelemetry raw (cfg .«usable_capacity_wh») in
-      let t = v .telemetry in
-      let glitch = glitchAfter (clock .third) (s .glitch) in
-      cond (confirmedDisarm (t .«now_ms») (t .armed) (cfg .«status_fresh_ms»))
-      (disarmed cfg clock glitch)
-      (flown
-      (sense dist minAlt maxAlt (triggersAfter (clock .third) (s .triggers)) glitch t (v .«invalid_input») cfg (clock .fault))
-      (arbiterAfter (clock .third) (s .arbiter))
-      (s .disarm)
-      clock
-      t
-      cfg)
+unfoldable pub step : Settings → Supervisor → Fed → Stepped
+step r s fed =
+    let raw = fed .telemetry in
+    let cfg = r .cfg in
+    let clock = clockStep (r .clock) (s .«last_now») (s .«epoch_start») (s .«backwards_streak») (s .initialized) (raw .«now_ms») in
+    let v = validateTelemetry raw (cfg .«usable_capacity_wh») in
+    let t = v .telemetry in
+    let glitch = glitchAfter (clock .third) (s .glitch) in
+    cond (confirmedDisarm (r .clock) (t .«now_ms») (t .armed) (cfg .«status_fresh_ms»))
+    (disarmed cfg clock glitch)
+    (flown r
+    (sense r (fed .site) (triggersAfter (clock .third) (s .triggers)) glitch t (v .«invalid_input») (clock .fault))
+    (arbiterAfter (clock .third) (s .arbiter))
+    (s .disarm)
+    clock
+    t)

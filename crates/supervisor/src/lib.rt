@@ -1,6 +1,8 @@
 // The Rust's lib.rs: one step of the supervisor. Configuration and fence come with each call.
 ghost use mathlib.Core.Path.{_≡_};
-ghost use Rattle.geometry.specs.Distance.{ringOf, signedDistance, signedDistanceBy};
+ghost use Rattle.time.specs.Time.{wrapping};
+ghost use Rattle.geometry.specs.Distance.{ringOf, signedDistanceBy};
+ghost use Rattle.supervisor.specs.Settings.{baseSettings, fenceSite, fenceSiteBy, fedAt};
 ghost use Rattle.supervisor.specs.Clock.{clockFault, soundClock, clockStep};
 ghost use Rattle.supervisor.specs.Step.{freshSupervisor, supervisorNew, placeOf, validPlace, marginAt, energyAt, distOf, sense, disarmedDecision, disarmed, decisionOf, flown, glitchAfter, triggersAfter, arbiterAfter, step};
 use arbiter::ArbiterState;
@@ -102,7 +104,7 @@ fn clock_step(
     initialized: bool,
     now_ms: u32,
 ) -> ClockStep
-    ensures { λ r. ⌜ r ≡ clockStep «last_now» «epoch_start» streak initialized «now_ms» ⌝ }
+    ensures { λ r. ⌜ r ≡ clockStep wrapping «last_now» «epoch_start» streak initialized «now_ms» ⌝ }
 {
     if initialized {
         match last_now {
@@ -218,7 +220,7 @@ fn sense(
     lengths: SideLengths,
     fault: bool,
 ) -> Sensed
-    ensures { λ r. ⌜ r ≡ sense (signedDistanceBy (ringOf (fence .poly)) (lengths .m)) (fence .«min_alt_m») (fence .«max_alt_m») triggers glitch t invalid cfg fault ⌝ }
+    ensures { λ r. ⌜ r ≡ sense (baseSettings cfg) (fenceSiteBy fence lengths) triggers glitch t invalid fault ⌝ }
 {
     let now = t.now_ms;
     let sample = t.position;
@@ -344,7 +346,7 @@ fn flown(
     t: Telemetry,
     cfg: Config,
 ) -> Stepped
-    ensures { λ r. ⌜ r ≡ flown sensed arbiter gate clock t cfg ⌝ }
+    ensures { λ r. ⌜ r ≡ flown (baseSettings cfg) sensed arbiter gate clock t ⌝ }
 {
     let now = t.now_ms;
     let armed = t.armed;
@@ -430,7 +432,7 @@ impl Supervisor {
         lengths: SideLengths,
         raw: Telemetry,
     ) -> Stepped
-        ensures { λ r. ⌜ r ≡ step (signedDistanceBy (ringOf (fence .poly)) (lengths .m)) (fence .«min_alt_m») (fence .«max_alt_m») cfg self raw ⌝ }
+        ensures { λ r. ⌜ r ≡ step (baseSettings cfg) self (fedAt (fenceSiteBy fence lengths) raw) ⌝ }
     {
         let last_now = self.last_now;
         let triggers = self.triggers;
@@ -458,7 +460,7 @@ impl Supervisor {
     }
 
     pub fn step(self, cfg: Config, fence: Geofence, raw: Telemetry) -> Stepped
-        ensures { λ r. ⌜ r ≡ step (signedDistance (ringOf (fence .poly))) (fence .«min_alt_m») (fence .«max_alt_m») cfg self raw ⌝ }
+        ensures { λ r. ⌜ r ≡ step (baseSettings cfg) self (fedAt (fenceSite fence) raw) ⌝ }
     {
         let poly = fence.poly;
         let lengths = geometry::side_lengths(poly);

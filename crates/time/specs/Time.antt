@@ -9,9 +9,15 @@ use Rattle.types.specs.declared.OptionU32.the-variants.{None, Some}
 unfoldable pub wrappingSub : ℕ → ℕ → ℕ
 wrappingSub a b = (a + (2 ^ 32 - b)) % 2 ^ 32
 
--- the term 'age': "Age is now minus then by wrapping subtraction, absent from 2^31 up."
-unfoldable pub age : ℕ → ℕ → OptionU32
-age now then = cond (ltb (wrappingSub now then) (2 ^ 31)) (Some (wrappingSub now then)) None
+-- the clock of 32 bits, which wraps, and the one of 64 bits, which doesn't
+pub data Clock : Type 0 where
+  wrapping : Clock
+  plain : Clock
+
+-- the term 'age': "Age is now minus then by wrapping subtraction, absent from 2^31 up."; on the other clock "absent only where the stamp is later than now"
+unfoldable pub age : Clock → ℕ → ℕ → OptionU32
+age wrapping now then = cond (ltb (wrappingSub now then) (2 ^ 31)) (Some (wrappingSub now then)) None
+age plain now then = cond (ltb now then) None (Some (now - then))
 
 abbrev pub atMost : OptionU32 → ℕ → Bool
 atMost None limit = false
@@ -22,9 +28,9 @@ atLeast None limit = false
 atLeast (Some a) limit = leb limit a
 
 -- the term 'fresh': "Fresh: age at most the limit."
-unfoldable pub fresh : ℕ → ℕ → ℕ → Bool
-fresh now t limit = atMost (age now t) limit
+unfoldable pub fresh : Clock → ℕ → ℕ → ℕ → Bool
+fresh clock now t limit = atMost (age clock now t) limit
 
 -- "its hold is met from the limit to under 2^31, and is unmet again beyond"
-unfoldable pub holdMet : ℕ → ℕ → ℕ → Bool
-holdMet now since hold = atLeast (age now since) hold
+unfoldable pub holdMet : Clock → ℕ → ℕ → ℕ → Bool
+holdMet clock now since hold = atLeast (age clock now since) hold

@@ -9,6 +9,7 @@ use Rattle.types.specs.declared.OptionF32.{OptionF32}
 use Rattle.types.specs.declared.ActiveSet.{ActiveSet}
 use Rattle.types.specs.declared.Telemetry.{Telemetry}
 use Rattle.types.specs.ActiveSet.{emptySet, setRequest}
+use Rattle.time.specs.Time.{Clock}
 use Rattle.config.specs.declared.Config.{Config}
 use Rattle.validate.specs.Fresh.{freshTrue, freshLanded, freshBatteryPercent, freshVoltage}
 use Rattle.triggers.specs.declared.OptionPlace.{OptionPlace}
@@ -91,22 +92,22 @@ withoutGcsTimer s =
 
 -- what each family makes of the readings, which are validated and filtered. `place` is what is read of a valid position, `margin` what is left of
 -- the energy after a return.
-unfoldable pub families : TriggerState → Telemetry → Config → Float → Float → OptionPlace → OptionF32 → Bool → Families
-families s t cfg minAlt maxAlt place margin invalid =
+unfoldable pub families : Clock → TriggerState → Telemetry → Config → Float → Float → OptionPlace → OptionF32 → Bool → Families
+families clock s t cfg minAlt maxAlt place margin invalid =
     let now = t .«now_ms» in
-    let flying = inAir (freshLanded now (t .landed) (cfg .«status_fresh_ms»)) in
-    let percent = freshBatteryPercent now (t .battery) (cfg .«battery_fresh_ms») (cfg .«usable_capacity_wh») in
-    let volts = freshVoltage now (t .battery) (cfg .«battery_fresh_ms») in
+    let flying = inAir (freshLanded clock now (t .landed) (cfg .«status_fresh_ms»)) in
+    let percent = freshBatteryPercent clock now (t .battery) (cfg .«battery_fresh_ms») (cfg .«usable_capacity_wh») in
+    let volts = freshVoltage clock now (t .battery) (cfg .«battery_fresh_ms») in
     record {
-      invalid = invalidInput (s .«invalid_active») (s .«invalid_clear») now invalid (cfg .«invalid_input_clear_ms»);
-      gcs = gcsLink (s .«gcs_clear_timer») (s .«gcs_stage») now (t .«gcs_heartbeat_ms») cfg;
-      rc = rcLink (s .«rc_lost_set») (s .«rc_clear_timer») now (freshTrue now (t .«rc_ok») (cfg .«status_fresh_ms»)) cfg;
-      gps = gps s now (t .gps) cfg;
-      ekf = ekf (s .«ekf_set») (s .«ekf_clear») now (freshTrue now (t .«ekf_ok») (cfg .«status_fresh_ms»)) cfg;
-      fence = fence s now place flying minAlt maxAlt cfg;
-      stale = staleBattery (s .«stale_bat_clear») now percent volts (cfg .«stale_battery_clear_ms»);
-      battery = battery s now percent volts cfg;
-      energy = energy s now margin cfg;
+      invalid = invalidInput clock (s .«invalid_active») (s .«invalid_clear») now invalid (cfg .«invalid_input_clear_ms»);
+      gcs = gcsLink clock (s .«gcs_clear_timer») (s .«gcs_stage») now (t .«gcs_heartbeat_ms») cfg;
+      rc = rcLink clock (s .«rc_lost_set») (s .«rc_clear_timer») now (freshTrue clock now (t .«rc_ok») (cfg .«status_fresh_ms»)) cfg;
+      gps = gps clock s now (t .gps) cfg;
+      ekf = ekf clock (s .«ekf_set») (s .«ekf_clear») now (freshTrue clock now (t .«ekf_ok») (cfg .«status_fresh_ms»)) cfg;
+      fence = fence clock s now place flying minAlt maxAlt cfg;
+      stale = staleBattery clock (s .«stale_bat_clear») now percent volts (cfg .«stale_battery_clear_ms»);
+      battery = battery clock s now percent volts cfg;
+      energy = energy clock s now margin cfg;
     }
 
 abbrev pub setIf : ActiveSet → Bool → Reason → Action → ActiveSet
@@ -181,8 +182,8 @@ nextTriggers f =
     }
 
 -- "A clock fault yields only ClockFault and moves no timer in this module"
-unfoldable pub update : TriggerState → Telemetry → Config → Float → Float → OptionPlace → OptionF32 → Bool → Bool → Updated
-update s t cfg minAlt maxAlt place margin invalid true = record { triggers = s; active = setRequest emptySet Reason.ClockFault Action.Warn }
-update s t cfg minAlt maxAlt place margin invalid false =
-    let f = families s t cfg minAlt maxAlt place margin invalid in
+unfoldable pub update : Clock → TriggerState → Telemetry → Config → Float → Float → OptionPlace → OptionF32 → Bool → Bool → Updated
+update clock s t cfg minAlt maxAlt place margin invalid true = record { triggers = s; active = setRequest emptySet Reason.ClockFault Action.Warn }
+update clock s t cfg minAlt maxAlt place margin invalid false =
+    let f = families clock s t cfg minAlt maxAlt place margin invalid in
     record { triggers = nextTriggers f; active = requests f }

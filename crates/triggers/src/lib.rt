@@ -1,5 +1,6 @@
 // The Rust's triggers.rs: timers, one function for each family of triggers, and update.
 ghost use mathlib.Core.Path.{_≡_};
+ghost use Rattle.time.specs.Time.{wrapping};
 ghost use Rattle.triggers.specs.Timer.{cleared, pending, heldSet, holdPair};
 ghost use Rattle.triggers.specs.Families.{invalidInput, gcsAge, stageRequest, gcsClearing, gcsStage, gcsLink, rcLink, fewSats, manySats, poorHdop, goodHdop, degraded, recovered, fixed, gps, ekf, rested, fenceApproach, fenceBreach, altitudeMax, inAir, altitudeMin, fence, isPresent, staleBattery, lowVoltage, batteryWarn, batteryLow, batteryCritical, battery, energyMarginal, energy};
 ghost use Rattle.triggers.specs.Update.{freshTriggers, withoutGcsTimer, families, setIf, setOption, linkRequests, fenceRequests, batteryRequests, requests, nextTriggers, update};
@@ -55,7 +56,7 @@ impl Timer {
 
     // Starts at the first true step, and is cleared by a false one.
     pub fn held_set(self, now: u32, active: bool, hold_ms: u32) -> Held
-        ensures { λ r. ⌜ r ≡ heldSet self now active «hold_ms» ⌝ }
+        ensures { λ r. ⌜ r ≡ heldSet wrapping self now active «hold_ms» ⌝ }
     {
         if active {
             let s = self.since_ms;
@@ -93,7 +94,7 @@ fn hold_pair(
     good: bool,
     clear_ms: u32,
 ) -> PairHeld
-    ensures { λ r. ⌜ r ≡ holdPair set clear now bad «set_ms» good «clear_ms» ⌝ }
+    ensures { λ r. ⌜ r ≡ holdPair wrapping set clear now bad «set_ms» good «clear_ms» ⌝ }
 {
     let s = set.held_set(now, bad, set_ms);
     let c = clear.held_set(now, good, clear_ms);
@@ -114,7 +115,7 @@ pub struct InvalidInput {
 }
 
 fn invalid_input(active: bool, clear: Timer, now: u32, invalid: bool, clear_ms: u32) -> InvalidInput
-    ensures { λ r. ⌜ r ≡ invalidInput active clear now invalid «clear_ms» ⌝ }
+    ensures { λ r. ⌜ r ≡ invalidInput wrapping active clear now invalid «clear_ms» ⌝ }
 {
     if invalid {
         InvalidInput {
@@ -141,7 +142,7 @@ pub struct GcsLink {
 
 // The heartbeat's age; the largest number where it has none.
 fn gcs_age(now: u32, heartbeat: OptionU32) -> u32
-    ensures { λ r. ⌜ r ≡ gcsAge now heartbeat ⌝ }
+    ensures { λ r. ⌜ r ≡ gcsAge wrapping now heartbeat ⌝ }
 {
     match heartbeat {
         OptionU32::Some(hb) => match time::age_ms(now, hb) {
@@ -169,7 +170,7 @@ fn stage_request(stage: u8) -> OptionAction
 
 // While the link is good again, what its stage asked for stays until the clear timer is met.
 fn gcs_clearing(timer: Timer, stage: u8, now: u32, clear_hold_ms: u32) -> GcsLink
-    ensures { λ r. ⌜ r ≡ gcsClearing timer stage now «clear_hold_ms» ⌝ }
+    ensures { λ r. ⌜ r ≡ gcsClearing wrapping timer stage now «clear_hold_ms» ⌝ }
 {
     let h = timer.held_set(now, true, clear_hold_ms);
     let t = h.timer;
@@ -199,7 +200,7 @@ fn gcs_stage(timer: Timer, stage: u8) -> GcsLink
 }
 
 fn gcs_link(timer: Timer, stage: u8, now: u32, heartbeat: OptionU32, cfg: Config) -> GcsLink
-    ensures { λ r. ⌜ r ≡ gcsLink timer stage now heartbeat cfg ⌝ }
+    ensures { λ r. ⌜ r ≡ gcsLink wrapping timer stage now heartbeat cfg ⌝ }
 {
     let age = gcs_age(now, heartbeat);
     if cfg.gcs_rtl_ms < age {
@@ -231,7 +232,7 @@ pub struct RcLink {
 
 // Raised from the first bad step, since a pending timer suffices.
 fn rc_link(set: Timer, clear: Timer, now: u32, good: bool, cfg: Config) -> RcLink
-    ensures { λ r. ⌜ r ≡ rcLink set clear now good cfg ⌝ }
+    ensures { λ r. ⌜ r ≡ rcLink wrapping set clear now good cfg ⌝ }
 {
     let bad = cfg.rc_required & !good;
     let s = set.held_set(now, bad, cfg.rc_lost_set_ms);
@@ -343,7 +344,7 @@ fn is_fixed(gps: OptionGpsSample) -> bool
 }
 
 fn gps_held(s: TriggerState, now: u32, sample: OptionGpsSample, cfg: Config) -> GpsHeld
-    ensures { λ r. ⌜ r ≡ gps s now sample cfg ⌝ }
+    ensures { λ r. ⌜ r ≡ gps wrapping s now sample cfg ⌝ }
 {
     let d1 = s.gps_deg_set;
     let d2 = s.gps_deg_clear;
@@ -416,7 +417,7 @@ fn fence_approach(dist: f32, cfg: Config) -> bool
 }
 
 fn fence_breach(set: Timer, clear: Timer, now: u32, dist: f32, cfg: Config) -> PairHeld
-    ensures { λ r. ⌜ r ≡ fenceBreach set clear now dist cfg ⌝ }
+    ensures { λ r. ⌜ r ≡ fenceBreach wrapping set clear now dist cfg ⌝ }
 {
     let bad = dist < 0.0;
     let good = cfg.fence_breach_clear_m <= dist;
@@ -440,7 +441,7 @@ fn altitude_max(
     max_alt_m: f32,
     cfg: Config,
 ) -> PairHeld
-    ensures { λ r. ⌜ r ≡ altitudeMax set clear now alt «max_alt_m» cfg ⌝ }
+    ensures { λ r. ⌜ r ≡ altitudeMax wrapping set clear now alt «max_alt_m» cfg ⌝ }
 {
     if max_alt_m < alt {
         let good = alt < max_alt_m - cfg.alt_max_clear_m;
@@ -482,7 +483,7 @@ fn altitude_min(
     min_alt_m: f32,
     cfg: Config,
 ) -> PairHeld
-    ensures { λ r. ⌜ r ≡ altitudeMin set clear now place flying «min_alt_m» cfg ⌝ }
+    ensures { λ r. ⌜ r ≡ altitudeMin wrapping set clear now place flying «min_alt_m» cfg ⌝ }
 {
     let alt = place.alt_m;
     let home = place.home_dist_m;
@@ -509,7 +510,7 @@ fn fence_held(
     max_alt_m: f32,
     cfg: Config,
 ) -> FenceHeld
-    ensures { λ r. ⌜ r ≡ fence s now place flying «min_alt_m» «max_alt_m» cfg ⌝ }
+    ensures { λ r. ⌜ r ≡ fence wrapping s now place flying «min_alt_m» «max_alt_m» cfg ⌝ }
 {
     let b1 = s.fence_breach_set;
     let b2 = s.fence_breach_clear;
@@ -563,7 +564,7 @@ fn stale_battery(
     volts: OptionF32,
     clear_ms: u32,
 ) -> StaleBattery
-    ensures { λ r. ⌜ r ≡ staleBattery clear now percent volts «clear_ms» ⌝ }
+    ensures { λ r. ⌜ r ≡ staleBattery wrapping clear now percent volts «clear_ms» ⌝ }
 {
     let has_p = is_present(percent);
     let has_v = is_present(volts);
@@ -600,7 +601,7 @@ fn low_voltage(volts: OptionF32, cfg: Config) -> bool
 }
 
 fn battery_warn(set: Timer, clear: Timer, now: u32, p: f32, cfg: Config) -> PairHeld
-    ensures { λ r. ⌜ r ≡ batteryWarn set clear now p cfg ⌝ }
+    ensures { λ r. ⌜ r ≡ batteryWarn wrapping set clear now p cfg ⌝ }
 {
     let bad = p < cfg.battery_warn_pct;
     let good = cfg.battery_warn_clear_pct < p;
@@ -616,7 +617,7 @@ fn battery_warn(set: Timer, clear: Timer, now: u32, p: f32, cfg: Config) -> Pair
 }
 
 fn battery_low(set: Timer, clear: Timer, now: u32, p: f32, cfg: Config) -> PairHeld
-    ensures { λ r. ⌜ r ≡ batteryLow set clear now p cfg ⌝ }
+    ensures { λ r. ⌜ r ≡ batteryLow wrapping set clear now p cfg ⌝ }
 {
     let bad = p < cfg.battery_low_pct;
     let good = cfg.battery_low_clear_pct < p;
@@ -632,7 +633,7 @@ fn battery_low(set: Timer, clear: Timer, now: u32, p: f32, cfg: Config) -> PairH
 }
 
 fn battery_critical(set: Timer, now: u32, p: f32, volts: OptionF32, cfg: Config) -> Held
-    ensures { λ r. ⌜ r ≡ batteryCritical set now p volts cfg ⌝ }
+    ensures { λ r. ⌜ r ≡ batteryCritical wrapping set now p volts cfg ⌝ }
 {
     let low = low_voltage(volts, cfg);
     set.held_set(
@@ -650,7 +651,7 @@ fn battery_held(
     volts: OptionF32,
     cfg: Config,
 ) -> BatteryHeld
-    ensures { λ r. ⌜ r ≡ battery s now percent volts cfg ⌝ }
+    ensures { λ r. ⌜ r ≡ battery wrapping s now percent volts cfg ⌝ }
 {
     let w1 = s.bat_warn_set;
     let w2 = s.bat_warn_clear;
@@ -692,7 +693,7 @@ pub struct EnergyHeld {
 }
 
 fn energy_marginal(set: Timer, clear: Timer, now: u32, margin: f32, cfg: Config) -> PairHeld
-    ensures { λ r. ⌜ r ≡ energyMarginal set clear now margin cfg ⌝ }
+    ensures { λ r. ⌜ r ≡ energyMarginal wrapping set clear now margin cfg ⌝ }
 {
     let bad = (0.0 <= margin) & (margin < cfg.energy_marginal_wh);
     let good = cfg.energy_marginal_clear_wh < margin;
@@ -708,7 +709,7 @@ fn energy_marginal(set: Timer, clear: Timer, now: u32, margin: f32, cfg: Config)
 }
 
 fn energy_held(s: TriggerState, now: u32, margin: OptionF32, cfg: Config) -> EnergyHeld
-    ensures { λ r. ⌜ r ≡ energy s now margin cfg ⌝ }
+    ensures { λ r. ⌜ r ≡ energy wrapping s now margin cfg ⌝ }
 {
     let m1 = s.energy_marg_set;
     let m2 = s.energy_marg_clear;
@@ -789,7 +790,7 @@ pub struct Updated {
 }
 
 fn ekf_held(set: Timer, clear: Timer, now: u32, healthy: bool, cfg: Config) -> PairHeld
-    ensures { λ r. ⌜ r ≡ ekf set clear now healthy cfg ⌝ }
+    ensures { λ r. ⌜ r ≡ ekf wrapping set clear now healthy cfg ⌝ }
 {
     hold_pair(
         set,
@@ -812,7 +813,7 @@ fn all_families(
     margin: OptionF32,
     invalid: bool,
 ) -> Families
-    ensures { λ r. ⌜ r ≡ families s t cfg «min_alt_m» «max_alt_m» place margin invalid ⌝ }
+    ensures { λ r. ⌜ r ≡ families wrapping s t cfg «min_alt_m» «max_alt_m» place margin invalid ⌝ }
 {
     let now = t.now_ms;
     let invalid_clear = s.invalid_clear;
@@ -1070,7 +1071,7 @@ impl TriggerState {
         invalid: bool,
         clock_fault: bool,
     ) -> Updated
-        ensures { λ r. ⌜ r ≡ update self t cfg «min_alt_m» «max_alt_m» place margin invalid «clock_fault» ⌝ }
+        ensures { λ r. ⌜ r ≡ update wrapping self t cfg «min_alt_m» «max_alt_m» place margin invalid «clock_fault» ⌝ }
     {
         if clock_fault {
             let a = ActiveSet::new();

@@ -10,7 +10,7 @@ use Rattle.types.specs.declared.Vec3.{Vec3}
 use Rattle.types.specs.declared.OptionU32.{OptionU32}
 use Rattle.types.specs.declared.PositionSample.{PositionSample}
 use Rattle.types.specs.declared.OptionPositionSample.{OptionPositionSample}
-use Rattle.time.specs.Time.{age}
+use Rattle.time.specs.Time.{Clock, age}
 use Rattle.validate.specs.declared.GlitchState.{GlitchState}
 use Rattle.validate.specs.declared.Filtered.{Filtered}
 
@@ -44,23 +44,23 @@ acceptAfter OptionU32.None last sample vMax = true
 acceptAfter (OptionU32.Some gap) last sample vMax = ltb 2000 gap || withinJump (distanceBetween (sample .pos) (last .pos)) gap vMax
 
 -- "accept with .. age absent or over 2000, or streak at least 3; else distance at most .."
-unfoldable pub acceptSample : PositionSample → ℕ → ℕ → PositionSample → Float → Bool
-acceptSample last streak now sample vMax = leb 3 streak || acceptAfter (age now (last .«t_ms»)) last sample vMax
+unfoldable pub acceptSample : Clock → PositionSample → ℕ → ℕ → PositionSample → Float → Bool
+acceptSample clock last streak now sample vMax = leb 3 streak || acceptAfter (age clock now (last .«t_ms»)) last sample vMax
 
 -- "accept with none stored"
-abbrev pub acceptStored : OptionPositionSample → ℕ → ℕ → PositionSample → Float → Bool
-acceptStored OptionPositionSample.None streak now sample vMax = true
-acceptStored (OptionPositionSample.Some last) streak now sample vMax = acceptSample last streak now sample vMax
+abbrev pub acceptStored : Clock → OptionPositionSample → ℕ → ℕ → PositionSample → Float → Bool
+acceptStored clock OptionPositionSample.None streak now sample vMax = true
+acceptStored clock (OptionPositionSample.Some last) streak now sample vMax = acceptSample clock last streak now sample vMax
 
 -- one more refusal, in a byte
 abbrev pub nextStreak : ℕ → ℕ
 nextStreak streak = min (streak + 1) 255
 
 -- an absent sample changes nothing; an accepted one is stored and ends the streak; a refused one is taken as absent
-unfoldable pub applyGlitchFilter : GlitchState → ℕ → OptionPositionSample → Float → Filtered
-applyGlitchFilter g now OptionPositionSample.None vMax = record { glitch = g; position = OptionPositionSample.None }
-applyGlitchFilter g now (OptionPositionSample.Some sample) vMax =
-    cond (acceptStored (g .«last_accepted») (g .«reject_streak») now sample vMax)
+unfoldable pub applyGlitchFilter : Clock → GlitchState → ℕ → OptionPositionSample → Float → Filtered
+applyGlitchFilter clock g now OptionPositionSample.None vMax = record { glitch = g; position = OptionPositionSample.None }
+applyGlitchFilter clock g now (OptionPositionSample.Some sample) vMax =
+    cond (acceptStored clock (g .«last_accepted») (g .«reject_streak») now sample vMax)
     (record {
       glitch = record { «last_accepted» = OptionPositionSample.Some sample; «reject_streak» = 0 };
       position = OptionPositionSample.Some sample;

@@ -1,5 +1,6 @@
 // The Rust's validate.rs: bounds of readings, the glitch filter, the readers of fresh values.
 ghost use mathlib.Core.Path.{_≡_};
+ghost use Rattle.time.specs.Time.{wrapping};
 ghost use Rattle.validate.specs.Bounds.{withinPosition, withinVelocity, validatePositionSample, validateHdop, validateGps, validatePercent, validateRemaining, positionOk, gpsOk, percentOk, remainingOk, keepPosition, keepGps, keepStamped, validateTelemetry};
 ghost use Rattle.validate.specs.Glitch.{distanceBetween, withinJump, acceptSample, acceptStored, nextStreak, applyGlitchFilter, noGlitch};
 ghost use Rattle.validate.specs.Fresh.{freshTrue, positionValid, confirmedDisarm, freshValue, freshBatteryPercent, freshRemainingWh, freshVoltage, freshLanded, freshGps};
@@ -234,7 +235,7 @@ fn accept_sample(
     sample: PositionSample,
     v_max: f32,
 ) -> bool
-    ensures { λ r. ⌜ r ≡ acceptSample last streak «now_ms» sample «v_max» ⌝ }
+    ensures { λ r. ⌜ r ≡ acceptSample wrapping last streak «now_ms» sample «v_max» ⌝ }
 {
     if 3 <= streak {
         return true;
@@ -260,7 +261,7 @@ fn accept_stored(
     sample: PositionSample,
     v_max: f32,
 ) -> bool
-    ensures { λ r. ⌜ r ≡ acceptStored stored streak «now_ms» sample «v_max» ⌝ }
+    ensures { λ r. ⌜ r ≡ acceptStored wrapping stored streak «now_ms» sample «v_max» ⌝ }
 {
     match stored {
         OptionPositionSample::Some(last) => accept_sample(last, streak, now_ms, sample, v_max),
@@ -280,7 +281,7 @@ pub fn apply_glitch_filter(
     pos: OptionPositionSample,
     v_max: f32,
 ) -> Filtered
-    ensures { λ r. ⌜ r ≡ applyGlitchFilter glitch «now_ms» pos «v_max» ⌝ }
+    ensures { λ r. ⌜ r ≡ applyGlitchFilter wrapping glitch «now_ms» pos «v_max» ⌝ }
 {
     let OptionPositionSample::Some(sample) = pos else {
         return Filtered {
@@ -312,7 +313,7 @@ pub fn apply_glitch_filter(
 
 // Whether a flag is fresh and true.
 pub fn fresh_true(now_ms: u32, x: OptionStampedBool, limit_ms: u32) -> bool
-    ensures { λ r. ⌜ r ≡ freshTrue «now_ms» x «limit_ms» ⌝ }
+    ensures { λ r. ⌜ r ≡ freshTrue wrapping «now_ms» x «limit_ms» ⌝ }
 {
     match x {
         OptionStampedBool::Some { t_ms, value } => {
@@ -325,7 +326,7 @@ pub fn fresh_true(now_ms: u32, x: OptionStampedBool, limit_ms: u32) -> bool
 
 // A fresh armed reading of false.
 pub fn is_confirmed_disarm(now_ms: u32, armed: OptionStampedBool, status_fresh_ms: u32) -> bool
-    ensures { λ r. ⌜ r ≡ confirmedDisarm «now_ms» armed «status_fresh_ms» ⌝ }
+    ensures { λ r. ⌜ r ≡ confirmedDisarm wrapping «now_ms» armed «status_fresh_ms» ⌝ }
 {
     match armed {
         OptionStampedBool::Some { t_ms, value } => {
@@ -343,7 +344,7 @@ pub fn position_valid(
     pos_fresh_ms: u32,
     status_fresh_ms: u32,
 ) -> bool
-    ensures { λ r. ⌜ r ≡ positionValid «now_ms» pos «ekf_ok» «pos_fresh_ms» «status_fresh_ms» ⌝ }
+    ensures { λ r. ⌜ r ≡ positionValid wrapping «now_ms» pos «ekf_ok» «pos_fresh_ms» «status_fresh_ms» ⌝ }
 {
     match pos {
         OptionPositionSample::Some(p) => {
@@ -356,7 +357,7 @@ pub fn position_valid(
 }
 
 fn fresh_value(now_ms: u32, x: OptionStampedF32, limit_ms: u32) -> OptionF32
-    ensures { λ r. ⌜ r ≡ freshValue «now_ms» x «limit_ms» ⌝ }
+    ensures { λ r. ⌜ r ≡ freshValue wrapping «now_ms» x «limit_ms» ⌝ }
 {
     match x {
         OptionStampedF32::Some { t_ms, value } => {
@@ -377,7 +378,7 @@ pub fn fresh_battery_percent(
     battery_fresh_ms: u32,
     usable_capacity_wh: f32,
 ) -> OptionF32
-    ensures { λ r. ⌜ r ≡ freshBatteryPercent «now_ms» battery «battery_fresh_ms» «usable_capacity_wh» ⌝ }
+    ensures { λ r. ⌜ r ≡ freshBatteryPercent wrapping «now_ms» battery «battery_fresh_ms» «usable_capacity_wh» ⌝ }
 {
     let remaining_wh = battery.remaining_wh;
     let percent = battery.percent;
@@ -394,7 +395,7 @@ pub fn fresh_remaining_wh(
     battery_fresh_ms: u32,
     usable_capacity_wh: f32,
 ) -> OptionF32
-    ensures { λ r. ⌜ r ≡ freshRemainingWh «now_ms» battery «battery_fresh_ms» «usable_capacity_wh» ⌝ }
+    ensures { λ r. ⌜ r ≡ freshRemainingWh wrapping «now_ms» battery «battery_fresh_ms» «usable_capacity_wh» ⌝ }
 {
     let remaining_wh = battery.remaining_wh;
     let percent = battery.percent;
@@ -408,7 +409,7 @@ pub fn fresh_remaining_wh(
 }
 
 pub fn fresh_voltage(now_ms: u32, battery: BatteryInputs, battery_fresh_ms: u32) -> OptionF32
-    ensures { λ r. ⌜ r ≡ freshVoltage «now_ms» battery «battery_fresh_ms» ⌝ }
+    ensures { λ r. ⌜ r ≡ freshVoltage wrapping «now_ms» battery «battery_fresh_ms» ⌝ }
 {
     let voltage_v = battery.voltage_v;
     fresh_value(now_ms, voltage_v, battery_fresh_ms)
@@ -419,7 +420,7 @@ pub fn fresh_landed(
     landed: OptionStampedLandedState,
     status_fresh_ms: u32,
 ) -> OptionLandedState
-    ensures { λ r. ⌜ r ≡ freshLanded «now_ms» landed «status_fresh_ms» ⌝ }
+    ensures { λ r. ⌜ r ≡ freshLanded wrapping «now_ms» landed «status_fresh_ms» ⌝ }
 {
     match landed {
         OptionStampedLandedState::Some { t_ms, value } => {
@@ -434,7 +435,7 @@ pub fn fresh_landed(
 }
 
 pub fn fresh_gps(now_ms: u32, gps: OptionGpsSample, gps_fresh_ms: u32) -> OptionGpsSample
-    ensures { λ r. ⌜ r ≡ freshGps «now_ms» gps «gps_fresh_ms» ⌝ }
+    ensures { λ r. ⌜ r ≡ freshGps wrapping «now_ms» gps «gps_fresh_ms» ⌝ }
 {
     match gps {
         OptionGpsSample::Some(g) => {

@@ -2,6 +2,7 @@
 use mathlib.Core.Path.{_∙_, ap, subst, sym}
 use borrow.Author.Needs.{needs}
 use Rattle.supervisor.specs.declared.Stepped.{Stepped}
+use Rattle.supervisor.specs.Settings.{baseSettings, fenceSite, fedAt}
 use Rattle.frame_decision.specs.Slots.{Canonical}
 use Rattle.frame_decision.specs.DecisionFrame.{accepted}
 use Rattle.frame_decision.specs.DecisionFrame.{readDecision}
@@ -26,7 +27,7 @@ returns c =
     let e = y .ensures in
     c .read-decision .ensures
     ∙ ap readDecision (c .before .before .before .write-decision .ensures .1 ∙ filled-decision d)
-    ∙ value-same d (owned-typed d _ (y .ok .1 .1 .1 .0)) (subst (λ (z : Stepped). Canonical (z .decision .active .reqs)) (sym e) (step-canonical _ _ _ (a .cfg) (a .x) (a .raw)))
+    ∙ value-same d (owned-typed d _ (y .ok .1 .1 .1 .0)) (subst (λ (z : Stepped). Canonical (z .decision .active .reqs)) (sym e) (step-canonical (baseSettings (a .cfg)) (a .x) (fedAt (fenceSite (a .fence)) (a .raw))))
     ∙ (λ i. accepted (e i .decision))
 
 pub stepped-decision-again-spec : {M : Type 1} → statement M

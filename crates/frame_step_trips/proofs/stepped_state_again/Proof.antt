@@ -2,6 +2,7 @@
 use mathlib.Core.Path.{_∙_, ap, subst, sym}
 use borrow.Author.Needs.{needs}
 use Rattle.supervisor.specs.declared.Stepped.{Stepped}
+use Rattle.supervisor.specs.Settings.{baseSettings, fenceSite, fedAt}
 use Rattle.supervisor.specs.Rules.{Rules}
 use Rattle.supervisor.proofs.Rules.{step-rules}
 use Rattle.frame_state.specs.StateFrame.{readState, stateFrame}
@@ -27,7 +28,7 @@ returns c =
     let read = c .read-state .ensures ∙ ap readState (c .before .before .before .write-state .ensures .1 ∙ filled-state x) in (
       (λ r.
           read
-          ∙ value-back x (owned-typed x _ (y .ok .1 .1 .0)) (subst (λ (z : Stepped). Rules (z .supervisor)) (sym e) (step-rules _ _ _ (a .cfg) (a .x) (a .raw) r))
+          ∙ value-back x (owned-typed x _ (y .ok .1 .1 .0)) (subst (λ (z : Stepped). Rules (z .supervisor)) (sym e) (step-rules (baseSettings (a .cfg)) (a .x) (fedAt (fenceSite (a .fence)) (a .raw)) r))
           ∙ (λ i. Frame (e i .supervisor))),
       read ∙ (λ i. readState (stateFrame (e i .supervisor))),
     )

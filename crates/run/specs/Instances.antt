@@ -1,0 +1,115 @@
+-- A run on bytes that meets the premises of the claim, and its record. Lists have the latest call first. Assumes nothing.
+use Prim.Native.Nat.{ℕ, _≤_}
+use mathlib.Core.Bool.{Bool, true, false}
+use mathlib.Core.List.{List, [], _∷_}
+use mathlib.Core.Path.{_≡_}
+use lib.Ieee.{neg}
+use lib.ListN.{length, replicate}
+use Rattle.types.specs.declared.Action.{Action}
+use Rattle.types.specs.declared.GpsFix.{GpsFix}
+use Rattle.types.specs.declared.LandedState.{LandedState}
+use Rattle.types.specs.declared.OptionU8.{OptionU8}
+use Rattle.types.specs.declared.OptionU32.{OptionU32}
+use Rattle.types.specs.declared.OptionF32.{OptionF32}
+use Rattle.types.specs.declared.OptionGpsSample.{OptionGpsSample}
+use Rattle.types.specs.declared.OptionPositionSample.{OptionPositionSample}
+use Rattle.types.specs.declared.OptionStampedF32.{OptionStampedF32}
+use Rattle.types.specs.declared.OptionStampedBool.{OptionStampedBool}
+use Rattle.types.specs.declared.OptionStampedLandedState.{OptionStampedLandedState}
+use Rattle.types.specs.declared.Telemetry.{Telemetry}
+use Rattle.config.specs.Default.{decimal, defaultConfig, defaultCorners}
+use Rattle.frame_config.specs.ConfigFrame.{configFrame}
+use Rattle.frame_fence.specs.FenceFrame.{fenceFrame}
+use Rattle.frame_telemetry.specs.TelemetryFrame.{telemetryFrame}
+use Rattle.ladder.specs.Record.{Line}
+use Rattle.supervisor.specs.Settings.{fenceSite, fedAt}
+use Rattle.flight.specs.Flight.{readFlight}
+use Rattle.run.specs.Run.{Call, Under, recordOfCalls, SameFlight, RunObeys}
+
+-- the frames of the default configuration and fence; a state slice longer than a frame
+unfoldable pub config : List ℕ
+config = configFrame defaultConfig
+
+unfoldable pub fence : List ℕ
+fence = fenceFrame false 4 (decimal 5 1) (decimal 120 1) defaultCorners
+
+unfoldable pub slice : List ℕ
+slice = replicate 200 7
+
+-- thirty metres above home, all readings taken now; the pilot's link is there or is lost
+unfoldable pub inFlight : ℕ → Bool → Telemetry
+inFlight now link =
+    record {
+      «now_ms» = now;
+      position =
+          OptionPositionSample.Some
+          (record {
+            «t_ms» = now;
+            pos = record { n = decimal 0 1; e = decimal 0 1; d = neg (decimal 30 1) };
+            vel = record { n = decimal 0 1; e = decimal 0 1; d = decimal 0 1 };
+          });
+      gps = OptionGpsSample.Some (record { «t_ms» = now; fix = GpsFix.Fix3D; sats = OptionU8.Some 12; hdop = OptionF32.Some (decimal 1 1) });
+      battery =
+          record {
+            «voltage_v» = OptionStampedF32.Some now (decimal 16 1);
+            percent = OptionStampedF32.Some now (decimal 90 1);
+            «remaining_wh» = OptionStampedF32.None;
+          };
+      «gcs_heartbeat_ms» = OptionU32.Some now;
+      armed = OptionStampedBool.Some now true;
+      landed = OptionStampedLandedState.Some now LandedState.InAir;
+      «rc_ok» = OptionStampedBool.Some now link;
+      «ekf_ok» = OptionStampedBool.Some now true;
+    }
+
+-- nothing is read but the clock
+unfoldable pub blind : ℕ → Telemetry
+blind now =
+    record {
+      «now_ms» = now;
+      position = OptionPositionSample.None;
+      gps = OptionGpsSample.None;
+      battery = record { «voltage_v» = OptionStampedF32.None; percent = OptionStampedF32.None; «remaining_wh» = OptionStampedF32.None };
+      «gcs_heartbeat_ms» = OptionU32.None;
+      armed = OptionStampedBool.None;
+      landed = OptionStampedLandedState.None;
+      «rc_ok» = OptionStampedBool.None;
+      «ekf_ok» = OptionStampedBool.None;
+    }
+
+abbrev pub stepOn : Telemetry → Call
+stepOn t = record { config = config; fence = fence; telemetry = telemetryFrame t; output = replicate 95 0 }
+
+-- declined: every slice is empty
+abbrev pub empty : Call
+empty = record { config = []; fence = []; telemetry = []; output = [] }
+
+abbrev pub calls : List Call
+calls =
+    stepOn (blind 6100) ∷
+    stepOn (inFlight 6000 true) ∷
+    stepOn (inFlight 5999 true) ∷
+    empty ∷
+    stepOn (inFlight 1000 true) ∷
+    stepOn (inFlight 0 false) ∷
+    []
+
+abbrev pub line : Telemetry → Action → Line
+line t a = record { fed = fedAt (fenceSite (readFlight config fence .fence)) t; action = a }
+
+pub record RunInstance : Type 0 where
+  -- the premises of the claim
+  pub room : 186 ≤ length slice
+  pub accepted : readFlight config fence .refused ≡ 0
+  pub under : Under slice (SameFlight (readFlight config fence)) calls
+  -- five steps: the pilot's link is lost at 0 and back from 1000, so Nominal is wanted from then on and shown 5000 ms later; at 6100 all readings are lost
+  pub record-is :
+      recordOfCalls slice calls
+      ≡ line (blind 6100) Action.Land
+      ∷ line (inFlight 6000 true) Action.Nominal
+      ∷ line (inFlight 5999 true) Action.ReturnToLaunch
+      ∷ line (inFlight 1000 true) Action.ReturnToLaunch
+      ∷ line (inFlight 0 false) Action.ReturnToLaunch
+      ∷ []
+  -- so the claim holds of it
+  pub obeys : RunObeys slice (readFlight config fence .cfg) calls

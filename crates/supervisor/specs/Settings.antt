@@ -1,0 +1,40 @@
+-- What a run keeps, and what one step is fed. Assumes nothing.
+use lib.Ieee.{Float}
+use Rattle.types.specs.declared.Point2.{Point2}
+use Rattle.types.specs.declared.Telemetry.{Telemetry}
+use Rattle.time.specs.Time.{Clock, wrapping}
+use Rattle.geometry.specs.declared.Geofence.{Geofence}
+use Rattle.geometry.specs.declared.SideLengths.{SideLengths}
+use Rattle.geometry.specs.Distance.{ringOf, signedDistance, signedDistanceBy}
+use Rattle.config.specs.declared.Config.{Config}
+
+-- what a run keeps: the clock that its instants are read on, and its one accepted configuration
+pub record Settings : Type 0 where
+  pub clock : Clock
+  pub cfg : Config
+
+-- document 01's flights are on the clock that wraps
+abbrev pub baseSettings : Config → Settings
+baseSettings cfg = record { clock = wrapping; cfg = cfg }
+
+-- where a step flies: the distance from the bounds at a point, and the altitudes to keep
+pub record Site : Type 0 where
+  pub dist : Point2 → Float
+  pub minAlt : Float
+  pub maxAlt : Float
+
+-- a fence alone
+abbrev pub fenceSite : Geofence → Site
+fenceSite f = record { dist = signedDistance (ringOf (f .poly)); minAlt = f .«min_alt_m»; maxAlt = f .«max_alt_m» }
+
+-- the same, by lengths of its sides that were worked out before
+abbrev pub fenceSiteBy : Geofence → SideLengths → Site
+fenceSiteBy f lengths = record { dist = signedDistanceBy (ringOf (f .poly)) (lengths .m); minAlt = f .«min_alt_m»; maxAlt = f .«max_alt_m» }
+
+-- "all it was fed but the state"
+pub record Fed : Type 0 where
+  pub telemetry : Telemetry
+  pub site : Site
+
+abbrev pub fedAt : Site → Telemetry → Fed
+fedAt site t = record { telemetry = t; site = site }
