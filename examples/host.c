@@ -171,6 +171,7 @@ int main(void)
     static const char *const actions[] = {"Nominal", "Warn", "Hold", "ReturnToLaunch", "Land"};
     uint8_t config[FAILSAFE_CONFIG_BYTES], fence[FAILSAFE_FENCE_BYTES(4)];
     uint8_t state[FAILSAFE_STATE_BYTES], telemetry[FAILSAFE_TELEMETRY_BYTES], output[FAILSAFE_DECISION_BYTES];
+    uint8_t shown[FAILSAFE_SIDE_BYTES];
     uint32_t refused;
 
     config_frame(config);
@@ -199,5 +200,15 @@ int main(void)
     refused = failsafe_step(config, sizeof config, fence, sizeof fence, state, sizeof state,
                             telemetry, sizeof telemetry, output, sizeof output);
     printf("damaged telemetry: refused with %u\n", (unsigned)refused);
+
+    /* which side of the fence is nearest */
+    telemetry_frame(telemetry, 41000, 40, 41000, 1);
+    refused = failsafe_step_side(config, sizeof config, fence, sizeof fence, state, sizeof state,
+                                 telemetry, sizeof telemetry, shown, sizeof shown);
+    if (refused != 0) {
+        printf("refused: %u\n", (unsigned)refused);
+        return 1;
+    }
+    printf("%6u %s, nearest side %u\n", 41000u, actions[shown[FAILSAFE_DECISION_ACTION]], shown[FAILSAFE_DECISION_SIDE]);
     return 0;
 }

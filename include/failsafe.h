@@ -11,6 +11,7 @@
  *   fence          2, 8   13 + 8 * corners    corner count, min altitude, max altitude, corners north, east
  *   telemetry      3      106                 Telemetry
  *   output         4      95 or more          Decision
+ *                  6      96 or more          Decision with the side of the fence: failsafe_step_side
  *   state          5      186                 the supervisor's state
  *
  * A bool is a byte 0 or 1, an enum a byte in declared order from 0, an Option a byte 0 or 1 and then its
@@ -45,6 +46,11 @@
  *   fix      0 None, 1 Fix2D, 2 Fix3D
  *   landed   0 Undefined, 1 OnGround, 2 InAir, 3 Takeoff, 4 Landing
  *
+ * Kind 6 is kind 4 with one byte put in: byte 94 is the number of the fence's side that gave the distance, and
+ * disarm_eligible stands at 95. Sides count from 0 in the order in which the fence is held: counter-clockwise, so corners
+ * that are sent clockwise are taken from the last to the first. Side k runs from held corner k to the next. Of
+ * sides at the same distance it is the lowest number; 255 where there is no distance, or none below infinity.
+ *
  * Config is packed by tools/frames.py, and written field by field in examples/host.c. The state's bytes are the
  * library's own: a host keeps them and hands them back.
  *
@@ -56,7 +62,7 @@
  *   3         a length under 2, or not the kind's, or bytes left over
  *   4         a flag or enum byte out of range; an absent value not zero; in state also a link stage above 3,
  *             a row of faults above 2, a number of the stored position or velocity that is not finite
- *   5         output under 95 bytes (for failsafe_fresh: state under 186)
+ *   5         output under 95 bytes (failsafe_step_side: under 96; failsafe_fresh: state under 186)
  *   10 to 18  the fence: too few corners, too many, not finite, out of envelope, duplicate, collinear, not
  *             convex, area too small, bad altitudes
  *   33        the fence, of kind 8 alone, after 16 and before 17: going round the sides, the sign of the north
@@ -84,12 +90,14 @@ extern "C" {
 #define FAILSAFE_FENCE_BYTES(corners) (13 + 8 * (corners))
 #define FAILSAFE_TELEMETRY_BYTES 106
 #define FAILSAFE_DECISION_BYTES 95
+#define FAILSAFE_SIDE_BYTES 96
 #define FAILSAFE_STATE_BYTES 186
 
 /* Places in a Decision's frame. */
 #define FAILSAFE_DECISION_ACTION 4
 #define FAILSAFE_DECISION_REASON 5
 #define FAILSAFE_DECISION_REQUESTED 6
+#define FAILSAFE_DECISION_SIDE 94 /* in kind 6 alone */
 
 /* One step: the state is rewritten, and the Decision stands in the first 95 bytes of output; later bytes stay.
  * Configuration and fence come with every call and are checked each time. */
@@ -99,7 +107,14 @@ uint32_t failsafe_step(const uint8_t *config, size_t config_len,
                        const uint8_t *telemetry, size_t telemetry_len,
                        uint8_t *output, size_t output_len);
 
-/* A fresh state in the first 186 bytes of state; later bytes stay. failsafe_step takes a state slice of
+/* The same step, with the Decision as kind 6 in the first 96 bytes of output. A flight may mix both entries. */
+uint32_t failsafe_step_side(const uint8_t *config, size_t config_len,
+                            const uint8_t *fence, size_t fence_len,
+                            uint8_t *state, size_t state_len,
+                            const uint8_t *telemetry, size_t telemetry_len,
+                            uint8_t *output, size_t output_len);
+
+/* A fresh state in the first 186 bytes of state; later bytes stay. The steps take a state slice of
  * exactly 186 bytes. */
 uint32_t failsafe_fresh(uint8_t *state, size_t state_len);
 

@@ -5,7 +5,8 @@
                                         as `decide` reads them (FILE: where to; default: standard output)
   frames.py show [FILE] [--input FILE]  shows frames as text, a line for each (FILE: default standard input;
                                         --input: the frames or the flight that were stepped: the n-th Decision
-                                        is then shown with the time of the n-th telemetry)
+                                        is then shown with the time of the n-th telemetry, and the side of a
+                                        Decision of kind 6 with its two corners)
   frames.py draw INPUT [FILE]           draws the fence of a flight or of frames (INPUT: - for standard input) as SVG,
                                         north up, with the number of each side, in the order in which the fence is held
   frames.py energy NUMBERS.json         works out the energy of a return in whole numbers, a line for each step, so
@@ -37,9 +38,10 @@ import math
 import struct
 import sys
 
-CONFIG, FENCE, TELEMETRY, DECISION, STATE, FENCE_ONCE_ROUND, REFUSAL = 1, 2, 3, 4, 5, 8, 255
+CONFIG, FENCE, TELEMETRY, DECISION, STATE, DECISION_SIDE, FENCE_ONCE_ROUND, REFUSAL = 1, 2, 3, 4, 5, 6, 8, 255
 FENCES = (FENCE, FENCE_ONCE_ROUND)
-KINDS = {CONFIG: "Config", FENCE: "Fence", FENCE_ONCE_ROUND: "Fence of kind 8", TELEMETRY: "Telemetry", DECISION: "Decision", STATE: "State", REFUSAL: "Refusal"}
+KINDS = {CONFIG: "Config", FENCE: "Fence", FENCE_ONCE_ROUND: "Fence of kind 8", TELEMETRY: "Telemetry", DECISION: "Decision", STATE: "State",
+         DECISION_SIDE: "Decision with its side", REFUSAL: "Refusal"}
 ACTIONS = ["Nominal", "Warn", "Hold", "ReturnToLaunch", "Land"]
 REASONS = ["None", "ClockFault", "InvalidInput", "StaleBattery", "GcsLinkLost", "RcLost", "GpsDegraded", "GpsLost",
            "EkfUnhealthy", "PositionInvalid", "FenceApproach", "FenceBreach", "AltitudeMax", "AltitudeMin", "BatteryWarn",
@@ -357,7 +359,16 @@ def show_telemetry(body):
     return ", ".join(told)
 
 
-def show_decision(body, time):
+def show_side(side, corners):
+    """The side that gave the distance: its number, and its corners where the fence is known."""
+    if side == 255:
+        return "no side"
+    if side < len(corners):
+        return f"side {side} from {numbers(corners[side])} to {numbers(corners[(side + 1) % len(corners)])}"
+    return f"side {side}"
+
+
+def show_decision(body, time, corners):
     action, reason, requested = body.name(ACTIONS), body.name(REASONS), body.name(ACTIONS)
     requests = []
     for _ in range(19):
@@ -368,10 +379,12 @@ def show_decision(body, time):
     body.take(12)
     body.option(4, body.f32)
     margin = body.option(4, body.f32)
-    short, distance, eligible = body.flag(), body.option(4, body.f32), body.flag()
+    short, distance = body.flag(), body.option(4, body.f32)
+    sides = [show_side(body.u8(), corners)] if body.kind == DECISION_SIDE else []
+    eligible = body.flag()
     line = f"{time} {action:14} {reason:19} requested {requested:14} position {'valid' if valid else 'none':5} "
     line += f"distance {number(distance, ' m'):>11} margin {number(margin, ' Wh'):>12}"
-    notes = ["clock fault"] * fault + ["too little to land"] * short + ["may disarm"] * eligible
+    notes = sides + ["clock fault"] * fault + ["too little to land"] * short + ["may disarm"] * eligible
     if requests:
         notes.append("requests " + " ".join(requests))
     return (line + ("  " + ", ".join(notes) if notes else "")).rstrip()
@@ -422,16 +435,16 @@ def split(stream):
         at += 2 + length
 
 
-def show(stream, times):
-    """A line for each frame. A Decision's time is that of its telemetry."""
+def show(stream, times, corners):
+    """A line for each frame. A Decision's time is that of its telemetry, its side one of the held corners' sides."""
     steps = 0
     for at, kind, bytes_ in split(stream):
         body = Body(kind, bytes_)
         try:
-            if kind == DECISION:
+            if kind in (DECISION, DECISION_SIDE):
                 time = f"{times[steps]:>10} ms" if steps < len(times) else f"step {steps:>5}   "
                 steps += 1
-                line = show_decision(body, time)
+                line = show_decision(body, time, corners)
             elif kind == REFUSAL:
                 refusal = struct.unpack("<H", body.take(2))[0]
                 line = f"Refusal {refusal}: {REFUSALS.get(refusal, 'no number of document 01')}"
@@ -630,6 +643,17 @@ def times_of(path):
     return [struct.unpack_from("<I", body)[0] for _, kind, body in frames_of(path) if kind == TELEMETRY and len(body) >= 4]
 
 
+def corners_of(path):
+    """The corners of a flight's fence, as they are held; none where there is no fence."""
+    for _, kind, bytes_ in frames_of(path):
+        if kind in FENCES:
+            body = Body(kind, bytes_)
+            count = body.u8()
+            body.take(8)
+            return held([(body.f32(), body.f32()) for _ in range(count)])
+    return []
+
+
 def pack_command(words):
     write_bytes(pack_flight(read_flight(words[0])), words[1:])
 
@@ -660,12 +684,12 @@ def draw_command(words):
 
 
 def show_command(words):
-    times = []
+    times, corners = [], []
     if "--input" in words:
         at = words.index("--input")
-        times = times_of(words[at + 1])
+        times, corners = times_of(words[at + 1]), corners_of(words[at + 1])
         words = words[:at] + words[at + 2:]
-    show(read_bytes(words[0] if words else "-"), times)
+    show(read_bytes(words[0] if words else "-"), times, corners)
 
 
 def main(words):

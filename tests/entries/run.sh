@@ -20,13 +20,13 @@ if [ $# -eq 0 ]; then
     echo "the Rust's own entries follow document 01's table of refusals"
     standin=$(oracle/run.sh --features standin --path entries 2>"$build/said")
     need $? "$build/said"
-    for fault in 1 2 3 4 5 6 7 8; do
+    for fault in 1 2 3 4 5 6 7 8 9; do
         if CUTHRANSI_FAULT=$fault "$standin" 20000 >"$build/fault$fault" || ! grep -q '^differs' "$build/fault$fault"; then
             echo "the driver did not see fault $fault of oracle/port/src/standin.rs"
             exit 1
         fi
     done
-    echo "the driver sees eight faults that were put into the Rust's own entries"
+    echo "the driver sees nine faults that were put into the Rust's own entries"
 fi
 
 if ! rt staticlib failsafe >"$build/staticlib.out" 2>&1; then

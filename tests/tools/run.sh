@@ -23,6 +23,12 @@ for seen in Warn Hold ReturnToLaunch Land; do
     grep -q " ms $seen " samples/decisions.txt || fail "the sample does not pass through $seen"
 done
 
+# A Decision of kind 6: kind 4's frame with a side put in.
+{ printf '\136\0\6\0' && head -c 94 samples/decisions.frames | tail -c 90 && printf '\2' && head -c 95 samples/decisions.frames | tail -c 1; } >"$build/side.frames"
+tools/frames.py show "$build/side.frames" --input samples/flight.json >"$build/side.txt" || fail "a Decision with its side is not shown"
+grep -qF 'side 2 from (-500, 500) to (-500, -500)' "$build/side.txt" || fail "the side is shown otherwise: $(cat "$build/side.txt")"
+tools/frames.py show "$build/side.frames" | grep -qF 'side 2' || fail "the side is not shown without a fence"
+
 # Document 01's input: the defaults and one all-absent telemetry.
 echo '{"telemetry": [{"now_ms": 0}]}' >"$build/absent.json"
 tools/frames.py pack "$build/absent.json" "$build/absent.frames" || fail "an all-absent telemetry does not pack"
@@ -88,6 +94,8 @@ if rust=$(oracle/run.sh --path decide 2>/dev/null) && streams=$(oracle/run.sh --
     "$rust" <samples/flight.frames | cmp - samples/decisions.frames || fail "the Rust makes other Decisions of the sample"
     "$streams" --write "$build/defaults.frames" 0 >/dev/null
     head -c -106 "$build/absent.frames" | cmp - "$build/defaults.frames" || fail "the defaults packed are not the Rust's"
+else
+    echo "left out: the Rust's Decisions of the sample, and its defaults (the Rust can't be built here)"
 fi
 [ "$failed" -eq 0 ] && echo "the sample's $(wc -l <samples/decisions.txt) Decisions and $tried bad inputs"
 exit "$failed"

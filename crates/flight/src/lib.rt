@@ -58,8 +58,8 @@ pub fn accept_flight(cfg: Config, read: FenceRead) -> Flight
     let poly = fence.poly;
     let lengths = geometry::side_lengths(poly);
     let home = Point2 { n: 0.0, e: 0.0 };
-    let dist = geometry::signed_distance_by(poly, lengths, home);
-    let checked = config::check_config(cfg, 0.0 <= dist, fence.min_alt_m, fence.max_alt_m);
+    let near = geometry::nearest_by(poly, lengths, home);
+    let checked = config::check_config(cfg, 0.0 <= near.m, fence.min_alt_m, fence.max_alt_m);
     let first = fence_number(result);
     let second = config_number(checked);
     Flight {

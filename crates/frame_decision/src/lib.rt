@@ -147,7 +147,7 @@ fn blank_decision() -> Decision
     }
 }
 
-fn refused_with(n: u16) -> DecisionRead
+pub fn refused_with(n: u16) -> DecisionRead
     ensures { λ r. ⌜ r ≡ refusedWith n ⌝ }
 {
     DecisionRead {

@@ -14,7 +14,7 @@ use lib.Ieee.{Float, nan, inf}
 use Rattle.types.specs.declared.Point2.{Point2}
 use Rattle.corners.specs.Ring.{pairs, sides}
 use Rattle.geometry.specs.Polygon.{heldOrder, placeHeld}
-use Rattle.geometry.specs.Distance.{minusOne, least, edgeSignedDistanceBy, signedDistanceBy}
+use Rattle.geometry.specs.Distance.{minusOne, noSide, nearestFrom, edgeSignedDistanceBy, nearestBy}
 
 module _ {A : Type 0} where
   reverse-place : (a : A) (l : List A) (i : ℕ) (d : A) → ((i < length l) → getD (reverse l) i d ≡ getD l (length l - 1 - i) d) → (i ≡ length l) ⊎ (i < length l)
@@ -65,11 +65,11 @@ pub held-count : (b : Bool) (v : List Point2) (n : ℕ) → n ≤ length v → l
 held-count b v n h = length-order b (take n v) ∙ length-take-le n v h
 
 -- the distance by the count of corners
-pub distance-few : (l : List Point2) (ms : List Float) (p : Point2) → length l < 3 → signedDistanceBy l ms p ≡ minusOne
-unfolding signedDistanceBy
+pub distance-few : (l : List Point2) (ms : List Float) (p : Point2) → length l < 3 → nearestBy l ms p ≡ noSide minusOne
+unfolding nearestBy
 distance-few l ms p h = rw (lt-ltb (length l) 3 h)
 
 pub distance-many : (l : List Point2) (ms : List Float) (p : Point2) → 3 ≤ length l
-    → signedDistanceBy l ms p ≡ least (edgeSignedDistanceBy p) (inf false) (pairs (sides l) ms)
-unfolding signedDistanceBy
+    → nearestBy l ms p ≡ nearestFrom (edgeSignedDistanceBy p) 0 (noSide (inf false)) (pairs (sides l) ms)
+unfolding nearestBy
 distance-many l ms p h = rw (le-ltb (length l) 3 h)

@@ -1,4 +1,5 @@
 -- The distance by the lengths of the ring's own sides is the distance. Assumes nothing.
+use Prim.Native.Nat.{ℕ, _+_}
 use mathlib.Core.Path.{_≡_, refl, ap}
 use mathlib.Core.Bool.{false, cond}
 use mathlib.Core.List.{List, [], _∷_, _++_, map}
@@ -7,13 +8,14 @@ use lib.ListN.{length}
 use lib.Ieee.{Float, inf}
 use Rattle.types.specs.declared.Point2.{Point2}
 use Rattle.corners.specs.Ring.{pairs, sides}
-use Rattle.geometry.specs.Distance.{minusOne, sideLength, sideLengths, nearer, least, edgeSignedDistance, edgeSignedDistanceBy, signedDistance, signedDistanceBy}
+use Rattle.geometry.specs.declared.FenceDistance.{FenceDistance}
+use Rattle.geometry.specs.Distance.{noSide, minusOne, sideLength, sideLengths, nearerSide, nearestFrom, edgeSignedDistance, edgeSignedDistanceBy, nearest, nearestBy}
 
-least-by : (p : Point2) (m : Float) (ss : List (Point2 × Point2)) (z : List Float)
-    → least (edgeSignedDistanceBy p) m (pairs ss (map sideLength ss ++ z)) ≡ least (edgeSignedDistance p) m ss
-least-by p m [] z = refl
-least-by p m (s ∷ ss) z = least-by p (nearer m (edgeSignedDistance p s)) ss z
+from-by : (p : Point2) (k : ℕ) (d : FenceDistance) (ss : List (Point2 × Point2)) (z : List Float)
+    → nearestFrom (edgeSignedDistanceBy p) k d (pairs ss (map sideLength ss ++ z)) ≡ nearestFrom (edgeSignedDistance p) k d ss
+from-by p k d [] z = refl
+from-by p k d (s ∷ ss) z = from-by p (k + 1) (nearerSide d k (edgeSignedDistance p s)) ss z
 
-pub by-side-lengths : (l : List Point2) (p : Point2) → signedDistanceBy l (sideLengths l .m) p ≡ signedDistance l p
-unfolding signedDistanceBy signedDistance
-by-side-lengths l p = ap (λ (d : Float). cond (ltb (length l) 3) minusOne d) (least-by p (inf false) (sides l) _)
+pub by-side-lengths : (l : List Point2) (p : Point2) → nearestBy l (sideLengths l .m) p ≡ nearest l p
+unfolding nearestBy nearest
+by-side-lengths l p = ap (λ (d : FenceDistance). cond (ltb (length l) 3) (noSide minusOne) d) (from-by p 0 (noSide (inf false)) (sides l) _)

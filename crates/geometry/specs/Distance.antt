@@ -1,7 +1,7 @@
 -- A polygon's ring of corners, and a point's distance from its sides. The quotations are of document 01's paragraph on geometry. Assumes nothing.
-use Prim.Native.Nat.{ℕ, _-_}
+use Prim.Native.Nat.{ℕ, _+_, _-_}
 use mathlib.Core.Bool.{Bool, false, cond}
-use mathlib.Core.List.{List, _++_, map}
+use mathlib.Core.List.{List, [], _∷_, _++_, map}
 use lib.Dec.{ltb}
 use lib.ListN.{length, take, getD, replicate}
 use lib.Ieee.{Float, inf, binary32, add, sub, mul, div, neg, lt, le, ofBits}
@@ -13,6 +13,7 @@ use Rattle.corners.specs.Ring.{fold, pairs, sides}
 use Rattle.geometry.specs.Polygon.{zeroPoint}
 use Rattle.geometry.specs.declared.ConvexPolygon.{ConvexPolygon}
 use Rattle.geometry.specs.declared.SideLengths.{SideLengths}
+use Rattle.geometry.specs.declared.FenceDistance.{FenceDistance}
 
 abbrev pub minusOne : Float
 minusOne = neg (ofBits binary32 0x3F80_0000)
@@ -66,10 +67,29 @@ least f = fold (λ m s. nearer m (f s))
 unfoldable pub signedDistance : List Point2 → Point2 → Float
 signedDistance l p = cond (ltb (length l) 3) minusOne (least (edgeSignedDistance p) (inf false) (sides l))
 
--- the same by lengths that are given, whatever they are
-unfoldable pub signedDistanceBy : List Point2 → List Float → Point2 → Float
-signedDistanceBy l ms p = cond (ltb (length l) 3) minusOne (least (edgeSignedDistanceBy p) (inf false) (pairs (sides l) ms))
-
 -- "Inside means at least 0."
 unfoldable pub contains : List Point2 → Point2 → Bool
 contains l p = le zeroF (signedDistance l p)
+
+-- ---- document 02, L1: "The fence distance now comes with the number of the side that gave it."
+
+-- "255 where no side's distance is below infinity"
+abbrev pub noSide : Float → FenceDistance
+noSide m = record { m = m; side = 255 }
+
+-- "At equal distances the lower number is given": side k, of distance x, has to be nearer; a NaN never is
+abbrev pub nearerSide : FenceDistance → ℕ → Float → FenceDistance
+nearerSide d k x = cond (lt x (d .m)) (record { m = x; side = k }) d
+
+-- the nearest of d and the sides of a list, which are numbered from k on
+abbrev pub nearestFrom : {A : Type 0} → (A → Float) → ℕ → FenceDistance → List A → FenceDistance
+nearestFrom f k d [] = d
+nearestFrom f k d (s ∷ ss) = nearestFrom f (k + 1) (nearerSide d k (f s)) ss
+
+-- "Sides count from 0 in held order"; without three corners there is no side
+unfoldable pub nearest : List Point2 → Point2 → FenceDistance
+nearest l p = cond (ltb (length l) 3) (noSide minusOne) (nearestFrom (edgeSignedDistance p) 0 (noSide (inf false)) (sides l))
+
+-- the same by lengths that are given, whatever they are
+unfoldable pub nearestBy : List Point2 → List Float → Point2 → FenceDistance
+nearestBy l ms p = cond (ltb (length l) 3) (noSide minusOne) (nearestFrom (edgeSignedDistanceBy p) 0 (noSide (inf false)) (pairs (sides l) ms))

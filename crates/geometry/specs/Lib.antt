@@ -1,3 +1,4 @@
 -- The definitions that the contracts of `geometry` cite.
 pub mod Polygon
 pub mod Distance
+pub mod Nearest

@@ -5,7 +5,7 @@ ghost use Prim.Native.Nat.{_+_, _%_, _<_, _≤_};
 ghost use lib.ListN.{take};
 ghost use lib.Dec.{eqb};
 ghost use Rattle.geometry.specs.Polygon.{placeHeld, normalizeCcw, polygonNew, geofenceNew};
-ghost use Rattle.geometry.specs.Distance.{ringOf, vertex, sideLength, sideLengths, edgeSignedDistanceBy, nearer, signedDistanceBy, signedDistance, contains};
+ghost use Rattle.geometry.specs.Distance.{ringOf, vertex, sideLength, sideLengths, edgeSignedDistanceBy, nearerSide, nearest, nearestBy, signedDistance, contains};
 use corners::FenceError;
 use corners::FenceResult;
 use types::OptionPoint2;
@@ -37,6 +37,12 @@ pub struct GeofenceResult {
 // The length of each side, from the first corner's on; 0 in the unused places.
 pub struct SideLengths {
     pub m: [f32; 16],
+}
+
+// The least distance from a fence's sides, and the number of the side that gave it; 255 where none did.
+pub struct FenceDistance {
+    pub m: f32,
+    pub side: u8,
 }
 
 // The place after i among n, the first after the last.
@@ -113,35 +119,44 @@ fn edge_signed_distance(a: Point2, b: Point2, len: f32, p: Point2) -> f32
     cross / len
 }
 
-// The lesser of two distances; a NaN is never less.
-fn nearer(min_sd: f32, sd: f32) -> f32
-    ensures { λ r. ⌜ r ≡ nearer «min_sd» sd ⌝ }
+// The nearer of an answer and a side with its distance; at equality the answer stays, and a NaN is never nearer.
+fn nearer_side(near: FenceDistance, side: usize, sd: f32) -> FenceDistance
+    requires { ⌜ side < 256 ⌝ }
+    ensures { λ r. ⌜ r ≡ nearerSide near side sd ⌝ }
 {
-    if sd < min_sd { sd } else { min_sd }
+    if sd < near.m {
+        FenceDistance {
+            m: sd,
+            side: side as u8,
+        }
+    } else {
+        near
+    }
 }
 
 // Each corner is handed on to the next side; the last side ends at the first corner.
-pub fn signed_distance_by(poly: ConvexPolygon, lengths: SideLengths, p: Point2) -> f32
-    ensures { λ r. ⌜ r ≡ signedDistanceBy (ringOf poly) (lengths .m) p ⌝ }
+pub fn nearest_by(poly: ConvexPolygon, lengths: SideLengths, p: Point2) -> FenceDistance
+    ensures { λ r. ⌜ r ≡ nearestBy (ringOf poly) (lengths .m) p ⌝ }
 {
     let n = corners::capped(poly.len);
     if n < 3 {
-        return -1.0;
+        return FenceDistance { m: -1.0, side: 255 };
     }
-    let mut min_sd = float32::infinity();
+    let top = float32::infinity();
+    let mut near = FenceDistance { m: top, side: 255 };
     let mut a = poly.verts[0];
     let mut i: usize = 0;
     while i + 1 < n {
         let j = i + 1;
         let b = poly.verts[j];
         let len = lengths.m[i];
-        min_sd = nearer(min_sd, edge_signed_distance(a, b, len, p));
+        near = nearer_side(near, i, edge_signed_distance(a, b, len, p));
         a = b;
         i = j;
     }
     let first = poly.verts[0];
     let last = lengths.m[i];
-    nearer(min_sd, edge_signed_distance(a, first, last, p))
+    nearer_side(near, i, edge_signed_distance(a, first, last, p))
 }
 
 impl ConvexPolygon {
@@ -201,8 +216,16 @@ impl ConvexPolygon {
     pub fn signed_distance(self, p: Point2) -> f32
         ensures { λ r. ⌜ r ≡ signedDistance (ringOf self) p ⌝ }
     {
+        let near = self.nearest(p);
+        near.m
+    }
+
+    // The same with the side that gives it.
+    pub fn nearest(self, p: Point2) -> FenceDistance
+        ensures { λ r. ⌜ r ≡ nearest (ringOf self) p ⌝ }
+    {
         let lengths = side_lengths(self);
-        signed_distance_by(self, lengths, p)
+        nearest_by(self, lengths, p)
     }
 }
 

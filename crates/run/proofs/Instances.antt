@@ -17,7 +17,7 @@ use Rattle.types.specs.Vec3.{altM, horizontalDistHome}
 use Rattle.time.specs.Time.{wrappingSub, age, fresh, holdMet}
 use Rattle.corners.specs.Acceptance.{cornerFault, samePoint, flatTurn, cross2, mixedTurns, areaTerm, polygonArea, polygonTests}
 use Rattle.geometry.specs.Polygon.{polygonNew, geofenceNew}
-use Rattle.geometry.specs.Distance.{sideLength, edgeSignedDistanceBy, signedDistance, signedDistanceBy, contains}
+use Rattle.geometry.specs.Distance.{sideLength, edgeSignedDistanceBy, signedDistance, nearest, nearestBy, contains}
 use Rattle.config.specs.Config.{badCellCount, badCapacity, nonFiniteParam, nonPositiveSpeed, negativePower, badThresholdOrder, outsideDuration, durationOutOfRange, rtlAltOutsideFence, checkConfig, validateConfig}
 use Rattle.config.specs.Default.{defaultConfig}
 use Rattle.energy.specs.Energy.{rtlWh, landWh, rtlEnergyAt, rtlEnergy}
@@ -37,15 +37,16 @@ use Rattle.options.specs.Enums.{actionAt, reasonAt, leAction, leReason}
 use Rattle.options.specs.Options.{zeros, validOption, optionU8At, optionU32At, leOptionU32, optionF32At}
 use Rattle.options.specs.Position.{vec3At, leVec3, optionPositionAt, leOptionPosition}
 use Rattle.frame_config.specs.ConfigFrame.{configAt, readConfig, freshnessCells, linkCells, fenceCells, batteryCells, energyCells, flightCells, configCells, configFrame}
-use Rattle.frame_fence.specs.FenceFrame.{pointAt, cornersAt, cornerArray, fenceFault, cornersSent, readFence, fenceRules, fenceOf, cornerCells, fenceCells as sentCells, fenceFrame}
+use Rattle.frame_fence.specs.FenceFrame.{pointAt, cornersAt, cornerArray, asksOnceRound, fenceFault, cornersSent, readFence, fenceRules, fenceOf, cornerCells, fenceCells as sentCells, fenceFrame}
 use Rattle.frame_state.specs.StateFrame.{timerAt, triggersAt, arbiterAt, stateAt, timersValid, stateValid, readState, leTimer, leLinks, leFence, leBattery, leInput, leTriggers, leArbiter, stateFrame}
 use Rattle.frame_telemetry.specs.Readings.{fixAt, landedAt, optionGpsAt, stampedF32At, stampedBoolAt, stampedLandedAt}
 use Rattle.frame_telemetry.specs.TelemetryFrame.{telemetryAt, telemetryTests, telemetryValid, readTelemetry, batteryCells as chargeCells, statusCells, telemetryCells, telemetryFrame}
 use Rattle.frame_decision.specs.DecisionFrame.{decisionFrame}
 use Rattle.flight.specs.Flight.{acceptFlight, refusedFlight, readFlight, stepFlight}
-use Rattle.failsafe.specs.Entry.{stepCall, freshCall}
+use Rattle.frame_side.specs.SideFrame.{sideFrame}
+use Rattle.entries.specs.Entry.{stepAny, freshCall}
 use Rattle.run.specs.Run.{Call, stateBytes, Under, recordOfCalls, SameFlight}
-use Rattle.run.specs.Instances.{config, fence, slice, inFlight, blind, stepOn, calls, line, RunInstance}
+use Rattle.run.specs.Instances.{config, fence, slice, inFlight, blind, stepOn, stepWithSide, calls, line, RunInstance}
 use Rattle.run.proofs.Run.{one-flight-claim}
 
 -- ---- the telemetry is bytes
@@ -83,11 +84,14 @@ unfolding slice
 room = lit≤ tt
 
 -- a call without bytes is declined
-declines : (state : List ℕ) → stepCall [] [] state [] [] .number ≡ 1
-unfolding stepCall readFlight refusedFlight readConfig frameFault
+declines : (state : List ℕ) → stepAny false [] [] state [] [] .number ≡ 1
+unfolding stepAny readFlight refusedFlight readConfig frameFault
 declines state = refl
 
 -- a call that steps, after others
+stepping-side : (t : Telemetry) (earlier : List Call) → below (telemetryFrame t) ≡ true → Under slice (SameFlight (readFlight config fence)) earlier → Under slice (SameFlight (readFlight config fence)) (stepWithSide t ∷ earlier)
+stepping-side t earlier b u = (tested (telemetryFrame t) b, (inr (refl, refl), u))
+
 stepping : (t : Telemetry) (earlier : List Call) → below (telemetryFrame t) ≡ true → Under slice (SameFlight (readFlight config fence)) earlier → Under slice (SameFlight (readFlight config fence)) (stepOn t ∷ earlier)
 stepping t earlier b u = (tested (telemetryFrame t) b, (inr (refl, refl), u))
 
@@ -98,7 +102,7 @@ under : Under slice (SameFlight (readFlight config fence)) calls
 under =
     stepping (blind 6100) _ (all-below .blind-6100)
     (stepping (inFlight 6000 true) _ (all-below .flight-6000)
-    (stepping (inFlight 5999 true) _ (all-below .flight-5999)
+    (stepping-side (inFlight 5999 true) _ (all-below .flight-5999)
     (tested [] refl, (inl (λ z. eqb-false 1 0 refl (sym (declines _) ∙ z)), first-two))))
 
 -- ---- the bytes of configuration, fence, state, telemetry and output through every call
@@ -115,7 +119,7 @@ record Computed : Type 0 where
       ∷ []
 
 computed : Computed
-unfolding add sub mul div neg lt le ofBits toBits ofInt round isNan config fence slice inFlight blind stateBytes recordOfCalls isFinite fabs isNegative fmax squareRoot setRequest higherRequest requestedAction altM horizontalDistHome wrappingSub age fresh holdMet cornerFault samePoint flatTurn cross2 mixedTurns areaTerm polygonArea polygonTests polygonNew geofenceNew sideLength edgeSignedDistanceBy signedDistance signedDistanceBy contains badCellCount badCapacity nonFiniteParam nonPositiveSpeed negativePower badThresholdOrder outsideDuration durationOutOfRange rtlAltOutsideFence checkConfig validateConfig defaultConfig rtlWh landWh rtlEnergyAt rtlEnergy withinPosition withinVelocity validatePositionSample validateGps validatePercent validateTelemetry freshBatteryPercent freshRemainingWh freshVoltage distanceBetween withinJump acceptSample applyGlitchFilter invalidInput stageRequest gcsStage gcsClearing gcsLink rcLink gps ekf fenceApproach fenceBreach altitudeMax altitudeMin fenceFamily staleBattery batteryWarn batteryLow batteryCritical battery energyMarginal energy heldSet holdPair freshTriggers families linkRequests fenceRequests batteryRequests requests nextTriggers update recover applyPersistence applyFeasibility arbitrate gateOpen holdFrom evaluate soundClock clockStep freshSupervisor sense decisionOf flown step u8At numberAt u16At u32At f32At flagAt byteBelow leBytes le8 le16 le32 leF32 leFlag frameHead frameFault frameWritten actionAt reasonAt leAction leReason zeros validOption optionU8At optionU32At leOptionU32 optionF32At vec3At leVec3 optionPositionAt leOptionPosition configAt readConfig freshnessCells linkCells fenceCells batteryCells energyCells flightCells configCells configFrame pointAt cornersAt cornerArray fenceFault cornersSent readFence fenceRules fenceOf cornerCells sentCells fenceFrame timerAt triggersAt arbiterAt stateAt timersValid stateValid readState leTimer leLinks leFence leBattery leInput leTriggers leArbiter stateFrame fixAt landedAt optionGpsAt stampedF32At stampedBoolAt stampedLandedAt telemetryAt telemetryTests telemetryValid readTelemetry chargeCells statusCells telemetryCells telemetryFrame decisionFrame acceptFlight refusedFlight readFlight stepFlight stepCall freshCall
+unfolding add sub mul div neg lt le ofBits toBits ofInt round isNan config fence slice inFlight blind stateBytes recordOfCalls isFinite fabs isNegative fmax squareRoot setRequest higherRequest requestedAction altM horizontalDistHome wrappingSub age fresh holdMet cornerFault samePoint flatTurn cross2 mixedTurns areaTerm polygonArea polygonTests polygonNew geofenceNew sideLength edgeSignedDistanceBy signedDistance nearest nearestBy contains badCellCount badCapacity nonFiniteParam nonPositiveSpeed negativePower badThresholdOrder outsideDuration durationOutOfRange rtlAltOutsideFence checkConfig validateConfig defaultConfig rtlWh landWh rtlEnergyAt rtlEnergy withinPosition withinVelocity validatePositionSample validateGps validatePercent validateTelemetry freshBatteryPercent freshRemainingWh freshVoltage distanceBetween withinJump acceptSample applyGlitchFilter invalidInput stageRequest gcsStage gcsClearing gcsLink rcLink gps ekf fenceApproach fenceBreach altitudeMax altitudeMin fenceFamily staleBattery batteryWarn batteryLow batteryCritical battery energyMarginal energy heldSet holdPair freshTriggers families linkRequests fenceRequests batteryRequests requests nextTriggers update recover applyPersistence applyFeasibility arbitrate gateOpen holdFrom evaluate soundClock clockStep freshSupervisor sense decisionOf flown step u8At numberAt u16At u32At f32At flagAt byteBelow leBytes le8 le16 le32 leF32 leFlag frameHead frameFault frameWritten actionAt reasonAt leAction leReason zeros validOption optionU8At optionU32At leOptionU32 optionF32At vec3At leVec3 optionPositionAt leOptionPosition configAt readConfig freshnessCells linkCells fenceCells batteryCells energyCells flightCells configCells configFrame pointAt cornersAt cornerArray asksOnceRound fenceFault cornersSent readFence fenceRules fenceOf cornerCells sentCells fenceFrame timerAt triggersAt arbiterAt stateAt timersValid stateValid readState leTimer leLinks leFence leBattery leInput leTriggers leArbiter stateFrame fixAt landedAt optionGpsAt stampedF32At stampedBoolAt stampedLandedAt telemetryAt telemetryTests telemetryValid readTelemetry chargeCells statusCells telemetryCells telemetryFrame decisionFrame acceptFlight refusedFlight readFlight stepFlight stepAny sideFrame freshCall
 computed = record { accepted = refl; record-is = refl }
 
 pub run-instance : RunInstance

@@ -14,7 +14,7 @@ use Rattle.types.specs.declared.Decision.{Decision}
 use Rattle.time.specs.Time.{wrapping}
 use Rattle.types.proofs.Slots.{action-of-rank}
 use Rattle.geometry.specs.declared.SideLengths.{SideLengths}
-use Rattle.geometry.specs.Distance.{ringOf, sideLengths, signedDistanceBy}
+use Rattle.geometry.specs.Distance.{ringOf, sideLengths}
 use Rattle.geometry.proofs.Lengths.{by-side-lengths}
 use Rattle.config.specs.declared.Config.{Config}
 use Rattle.supervisor.specs.declared.Supervisor.{Supervisor}
@@ -36,14 +36,15 @@ use Rattle.frame_state.proofs.Trips.{value-back}
 use Rattle.frame_telemetry.specs.declared.TelemetryRead.{TelemetryRead}
 use Rattle.frame_telemetry.specs.TelemetryFrame.{telemetryAt, telemetryValid, readTelemetry}
 use Rattle.frame_decision.specs.DecisionFrame.{decisionFrame}
+use Rattle.frame_side.specs.SideFrame.{sideFrame}
 use Rattle.flight.specs.declared.Flight.{Flight}
 use Rattle.flight.specs.Flight.{acceptFlight, refusedFlight, afterConfig, readFlight, stepFlight}
-use Rattle.failsafe.specs.Entry.{StepCall, declined, succeeded, written, afterTelemetry, afterState, afterFlight, stepCall, freshCall}
-use Rattle.failsafe.proofs.Declined.{declined-keeps}
+use Rattle.entries.specs.Entry.{StepCall, declined, outputFrame, outputSize, succeeded, written, afterTelemetry, afterState, afterFlight, stepAny, freshCall}
+use Rattle.entries.proofs.Declined.{declined-keeps}
 use Rattle.ladder.specs.Record.{Line, stateAfter, recordOf, stepsOf}
 use Rattle.ladder.specs.Claim.{ObeysAll}
 use Rattle.ladder.proofs.Run.{ladder-claim}
-use Rattle.run.specs.Run.{Call, shownAction, flightOf, fedBy, stateBytes, answered, Under, UnderConfig, fed, recordOfCalls, RunClaim, SameFlight, OneFlightClaim}
+use Rattle.run.specs.Run.{Call, on, shownAction, flightOf, fedBy, stateBytes, answered, Under, UnderConfig, fed, recordOfCalls, RunClaim, SameFlight, OneFlightClaim}
 use Rattle.run.proofs.Typed.{fresh-typed, step-typed, read-now, read-position}
 
 -- ---- an accepted flight steps with the fence's own distance
@@ -65,31 +66,32 @@ flight-site config fence =
     let g = readFlight config fence .fence in
     let l = ringOf (g .poly) in
     ap (fenceSiteBy g) (flight-lengths config fence)
-    ∙ (λ i. record { dist = λ p. by-side-lengths l p i; minAlt = g .«min_alt_m»; maxAlt = g .«max_alt_m» })
+    ∙ (λ i. record { near = λ p. by-side-lengths l p i; minAlt = g .«min_alt_m»; maxAlt = g .«max_alt_m» })
 
 -- ---- telemetry that is not refused is read, and an output that is not refused has room
 
-telemetry-read : (f : Flight) (x : Supervisor) (s state output : List ℕ) → afterTelemetry (readTelemetry s) f x state output .number ≡ 0 → readTelemetry s ≡ TelemetryRead.Frame (telemetryAt s)
+telemetry-read : (withSide : Bool) (f : Flight) (x : Supervisor) (s state output : List ℕ) → afterTelemetry withSide (readTelemetry s) f x state output .number ≡ 0 → readTelemetry s ≡ TelemetryRead.Frame (telemetryAt s)
 unfolding readTelemetry
-telemetry-read f x s state output h = at (eqb (frameFault 3 104 s) 0) (telemetryValid s) refl h
+telemetry-read withSide f x s state output h = at (eqb (frameFault 3 104 s) 0) (telemetryValid s) refl h
   where
-    at : (a b : Bool) → eqb (frameFault 3 104 s) 0 ≡ a → afterTelemetry (cond a (cond b (TelemetryRead.Frame (telemetryAt s)) (TelemetryRead.Refused 4)) (TelemetryRead.Refused (frameFault 3 104 s))) f x state output .number ≡ 0 → cond a (cond b (TelemetryRead.Frame (telemetryAt s)) (TelemetryRead.Refused 4)) (TelemetryRead.Refused (frameFault 3 104 s)) ≡ TelemetryRead.Frame (telemetryAt s)
+    at : (a b : Bool) → eqb (frameFault 3 104 s) 0 ≡ a → afterTelemetry withSide (cond a (cond b (TelemetryRead.Frame (telemetryAt s)) (TelemetryRead.Refused 4)) (TelemetryRead.Refused (frameFault 3 104 s))) f x state output .number ≡ 0 → cond a (cond b (TelemetryRead.Frame (telemetryAt s)) (TelemetryRead.Refused 4)) (TelemetryRead.Refused (frameFault 3 104 s)) ≡ TelemetryRead.Frame (telemetryAt s)
     at true true e z = refl
     at true false e z = absurd (eqb-false 4 0 refl z)
     at false b e z = absurd (eqb-false (frameFault 3 104 s) 0 e z)
 
-roomy : (next : Stepped) (state output : List ℕ) → written next state output .number ≡ 0 → written next state output ≡ succeeded next output
-roomy next state output z = at (ltb (length output) 95) z
+roomy : (withSide : Bool) (next : Stepped) (state output : List ℕ) → written withSide next state output .number ≡ 0 → written withSide next state output ≡ succeeded withSide next output
+roomy withSide next state output z = at (ltb (length output) (outputSize withSide)) z
   where
-    at : (b : Bool) → cond b (declined 5 state output) (succeeded next output) .number ≡ 0 → cond b (declined 5 state output) (succeeded next output) ≡ succeeded next output
+    at : (b : Bool) → cond b (declined 5 state output) (succeeded withSide next output) .number ≡ 0 → cond b (declined 5 state output) (succeeded withSide next output) ≡ succeeded withSide next output
     at true e = absurd (eqb-false 5 0 refl e)
     at false e = refl
 
 -- ---- the action that a Decision's frame shows
 
-action-shown : (d : Decision) (rest : List ℕ) → shownAction (decisionFrame d ++ rest) ≡ d .action
-unfolding actionAt u8At decisionFrame frameHead le16 leBytes leAction le8
-action-shown d rest = ap actionOrNominal (action-of-rank (d .action))
+action-shown : (withSide : Bool) (d : Decision) (side : ℕ) (rest : List ℕ) → shownAction (outputFrame withSide d side ++ rest) ≡ d .action
+unfolding actionAt u8At sideFrame decisionFrame frameHead le16 leBytes leAction le8
+action-shown false d side rest = ap actionOrNominal (action-of-rank (d .action))
+action-shown true d side rest = ap actionOrNominal (action-of-rank (d .action))
 
 -- ---- a run begins with a fresh state
 
@@ -104,28 +106,29 @@ begins slice h =
 -- ---- a call that steps
 
 -- it has an accepted flight
-accepts : (config fence state telemetry output : List ℕ) → stepCall config fence state telemetry output .number ≡ 0 → readFlight config fence .refused ≡ 0
-unfolding stepCall
-accepts config fence state telemetry output z = at (eqb (readFlight config fence .refused) 0) refl z
+accepts : (c : Call) (state : List ℕ) → on c state .number ≡ 0 → flightOf c .refused ≡ 0
+unfolding stepAny
+accepts c state z = at (eqb (flightOf c .refused) 0) refl z
   where
-    at : (b : Bool) → eqb (readFlight config fence .refused) 0 ≡ b → cond b (afterState (readState state) (readFlight config fence) state telemetry output) (declined (readFlight config fence .refused) state output) .number ≡ 0 → readFlight config fence .refused ≡ 0
+    at : (b : Bool) → eqb (flightOf c .refused) 0 ≡ b → cond b (afterState (c .withSide) (readState state) (flightOf c) state (c .telemetry) (c .output)) (declined (flightOf c .refused) state (c .output)) .number ≡ 0 → flightOf c .refused ≡ 0
     at true e z = eqb-true _ _ e
     at false e z = z
 
 -- from a state image that is a state's
-stepped : (c : Call) (x : Supervisor) (state : List ℕ) → readState state ≡ StateRead.Frame x → stepCall (c .config) (c .fence) state (c .telemetry) (c .output) .number ≡ 0 → stepCall (c .config) (c .fence) state (c .telemetry) (c .output) ≡ succeeded (step (baseSettings (flightOf c .cfg)) x (fedBy c)) (c .output)
-unfolding stepCall stepFlight
+stepped : (c : Call) (x : Supervisor) (state : List ℕ) → readState state ≡ StateRead.Frame x → on c state .number ≡ 0 → on c state ≡ succeeded (c .withSide) (step (baseSettings (flightOf c .cfg)) x (fedBy c)) (c .output)
+unfolding stepAny stepFlight
 stepped c x state r z =
+    let w = c .withSide in
     let telemetry = c .telemetry in
     let output = c .output in
     let f = flightOf c in
     let next = stepFlight f x (telemetryAt telemetry) in
-    let a : afterFlight f state telemetry output ≡ afterTelemetry (readTelemetry telemetry) f x state output = rw (eq-eqb _ _ (accepts (c .config) (c .fence) state telemetry output z)) (ap (λ (q : StateRead). afterState q f state telemetry output) r) in
-    let b = telemetry-read f x telemetry state output (sym (ap (λ (q : StepCall). q .number) a) ∙ z) in
-    let w : afterFlight f state telemetry output ≡ written next state output = a ∙ ap (λ (q : TelemetryRead). afterTelemetry q f x state output) b in
-    w
-    ∙ roomy next state output (sym (ap (λ (q : StepCall). q .number) w) ∙ z)
-    ∙ ap (λ (site : Site). succeeded (step (baseSettings (f .cfg)) x (fedAt site (telemetryAt telemetry))) output) (flight-site (c .config) (c .fence))
+    let a : afterFlight w f state telemetry output ≡ afterTelemetry w (readTelemetry telemetry) f x state output = rw (eq-eqb _ _ (accepts c state z)) (ap (λ (q : StateRead). afterState w q f state telemetry output) r) in
+    let b = telemetry-read w f x telemetry state output (sym (ap (λ (q : StepCall). q .number) a) ∙ z) in
+    let e : afterFlight w f state telemetry output ≡ written w next state output = a ∙ ap (λ (q : TelemetryRead). afterTelemetry w q f x state output) b in
+    e
+    ∙ roomy w next state output (sym (ap (λ (q : StepCall). q .number) e) ∙ z)
+    ∙ ap (λ (site : Site). succeeded w (step (baseSettings (f .cfg)) x (fedAt site (telemetryAt telemetry))) output) (flight-site (c .config) (c .fence))
 
 module _ (slice : List ℕ) (room : 186 ≤ length slice) (cfg : Config) where
   after : List Fed → Supervisor
@@ -139,12 +142,12 @@ module _ (slice : List ℕ) (room : 186 ≤ length slice) (cfg : Config) where
     record-is : lines ≡ recordOf (baseSettings cfg) fs
 
   -- what a call that steps under this configuration leaves: the next state's image, and the Decision's action in the output
-  leaves : (x : Supervisor) (c : Call) (state : List ℕ) → flightOf c .cfg ≡ cfg → readState state ≡ StateRead.Frame x → stepCall (c .config) (c .fence) state (c .telemetry) (c .output) .number ≡ 0 → (stepCall (c .config) (c .fence) state (c .telemetry) (c .output) .state ≡ stateFrame (step (baseSettings cfg) x (fedBy c) .supervisor)) × (shownAction (stepCall (c .config) (c .fence) state (c .telemetry) (c .output) .output) ≡ step (baseSettings cfg) x (fedBy c) .decision .action)
+  leaves : (x : Supervisor) (c : Call) (state : List ℕ) → flightOf c .cfg ≡ cfg → readState state ≡ StateRead.Frame x → on c state .number ≡ 0 → (on c state .state ≡ stateFrame (step (baseSettings cfg) x (fedBy c) .supervisor)) × (shownAction (on c state .output) ≡ step (baseSettings cfg) x (fedBy c) .decision .action)
   leaves x c state same r z =
       let is = stepped c x state r z in
       let next = step (baseSettings (flightOf c .cfg)) x (fedBy c) in (
         ap (λ (q : StepCall). q .state) is ∙ (λ i. stateFrame (step (baseSettings (same i)) x (fedBy c) .supervisor)),
-        ap (λ (q : StepCall). shownAction (q .output)) is ∙ action-shown (next .decision) (drop 95 (c .output)) ∙ (λ i. step (baseSettings (same i)) x (fedBy c) .decision .action),
+        ap (λ (q : StepCall). shownAction (q .output)) is ∙ action-shown (c .withSide) (next .decision) (next .side) (drop (outputSize (c .withSide)) (c .output)) ∙ (λ i. step (baseSettings (same i)) x (fedBy c) .decision .action),
       )
 
   next : (c : Call) (earlier : List Call) → Bytes (c .telemetry) → ((answered slice c earlier .number ≡ 0 → ⊥) ⊎ (flightOf c .cfg ≡ cfg)) → Agrees (stateBytes slice earlier) (fed slice earlier) (recordOfCalls slice earlier) → Agrees (stateBytes slice (c ∷ earlier)) (fed slice (c ∷ earlier)) (recordOfCalls slice (c ∷ earlier))
@@ -152,7 +155,7 @@ module _ (slice : List ℕ) (room : 186 ≤ length slice) (cfg : Config) where
   next c earlier bytes under i = at (eqb (answered slice c earlier .number) 0) refl
     where
       at : (b : Bool) → eqb (answered slice c earlier .number) 0 ≡ b → Agrees (answered slice c earlier .state) (cond b (fedBy c ∷ fed slice earlier) (fed slice earlier)) (cond b (record { fed = fedBy c; action = shownAction (answered slice c earlier .output) } ∷ recordOfCalls slice earlier) (recordOfCalls slice earlier))
-      at false e = record { image = declined-keeps (c .config) (c .fence) (stateBytes slice earlier) (c .telemetry) (c .output) e .0 ∙ i .image; typed = i .typed; rules = i .rules; record-is = i .record-is }
+      at false e = record { image = declined-keeps (c .withSide) (c .config) (c .fence) (stateBytes slice earlier) (c .telemetry) (c .output) e .0 ∙ i .image; typed = i .typed; rules = i .rules; record-is = i .record-is }
       at true e =
           let z = eqb-true (answered slice c earlier .number) 0 e in
           let one = ⊎-elim (λ n. absurd (n z)) (λ (o : flightOf c .cfg ≡ cfg). o) under in

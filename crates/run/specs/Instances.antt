@@ -78,17 +78,21 @@ blind now =
     }
 
 abbrev pub stepOn : Telemetry → Call
-stepOn t = record { config = config; fence = fence; telemetry = telemetryFrame t; output = replicate 95 0 }
+stepOn t = record { withSide = false; config = config; fence = fence; telemetry = telemetryFrame t; output = replicate 95 0 }
+
+-- the same by the entry that writes the side
+abbrev pub stepWithSide : Telemetry → Call
+stepWithSide t = record { withSide = true; config = config; fence = fence; telemetry = telemetryFrame t; output = replicate 96 0 }
 
 -- declined: every slice is empty
 abbrev pub empty : Call
-empty = record { config = []; fence = []; telemetry = []; output = [] }
+empty = record { withSide = false; config = []; fence = []; telemetry = []; output = [] }
 
 abbrev pub calls : List Call
 calls =
     stepOn (blind 6100) ∷
     stepOn (inFlight 6000 true) ∷
-    stepOn (inFlight 5999 true) ∷
+    stepWithSide (inFlight 5999 true) ∷
     empty ∷
     stepOn (inFlight 1000 true) ∷
     stepOn (inFlight 0 false) ∷

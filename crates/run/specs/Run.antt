@@ -17,18 +17,23 @@ use Rattle.frame_state.specs.StateFrame.{readState}
 use Rattle.frame_telemetry.specs.TelemetryFrame.{telemetryAt}
 use Rattle.flight.specs.declared.Flight.{Flight}
 use Rattle.flight.specs.Flight.{readFlight}
-use Rattle.failsafe.specs.Entry.{StepCall, stepCall, freshCall}
+use Rattle.entries.specs.Entry.{StepCall, stepAny, freshCall}
 use Rattle.ladder.specs.Record.{Line, stateAfter, stepsOf}
 use Rattle.ladder.specs.Claim.{ObeysAll}
 
--- what a call of the step entry is handed beside the state
+-- a call of a step entry: whether it is the one that writes the side, and what it is handed beside the state
 pub record Call : Type 0 where
+  pub withSide : Bool
   pub config : List ℕ
   pub fence : List ℕ
   pub telemetry : List ℕ
   pub output : List ℕ
 
--- the action that an output's Decision shows, read off its bytes
+-- the call on a state: its number and buffers
+abbrev pub on : Call → List ℕ → StepCall
+on c state = stepAny (c .withSide) (c .config) (c .fence) state (c .telemetry) (c .output)
+
+-- the action that an output's Decision shows, read off its bytes: kinds 4 and 6 have it in one place
 abbrev pub shownAction : List ℕ → Action
 shownAction output = actionAt output 4
 
@@ -45,11 +50,11 @@ module _ (slice : List ℕ) where
   -- "Each call gets the state that the last one returned or, declining, left"; the first gets "the first 186 bytes" of what the fresh entry left
   unfoldable pub stateBytes : List Call → List ℕ
   stateBytes [] = take 186 (freshCall slice .state)
-  stateBytes (c ∷ earlier) = stepCall (c .config) (c .fence) (stateBytes earlier) (c .telemetry) (c .output) .state
+  stateBytes (c ∷ earlier) = on c (stateBytes earlier) .state
 
   -- a call after earlier ones: its number and buffers
   abbrev pub answered : Call → List Call → StepCall
-  answered c earlier = stepCall (c .config) (c .fence) (stateBytes earlier) (c .telemetry) (c .output)
+  answered c earlier = on c (stateBytes earlier)
 
   -- whether a call is a step: "A declined call .. is no step"
   abbrev pub isStep : Call → List Call → Bool

@@ -5,7 +5,8 @@ use Rattle.types.specs.declared.Telemetry.{Telemetry}
 use Rattle.time.specs.Time.{Clock, wrapping}
 use Rattle.geometry.specs.declared.Geofence.{Geofence}
 use Rattle.geometry.specs.declared.SideLengths.{SideLengths}
-use Rattle.geometry.specs.Distance.{ringOf, signedDistance, signedDistanceBy}
+use Rattle.geometry.specs.declared.FenceDistance.{FenceDistance}
+use Rattle.geometry.specs.Distance.{ringOf, nearest, nearestBy}
 use Rattle.config.specs.declared.Config.{Config}
 
 -- what a run keeps: the clock that its instants are read on, and its one accepted configuration
@@ -17,19 +18,19 @@ pub record Settings : Type 0 where
 abbrev pub baseSettings : Config → Settings
 baseSettings cfg = record { clock = wrapping; cfg = cfg }
 
--- where a step flies: the distance from the bounds at a point, and the altitudes to keep
+-- where a step flies: the distance from the bounds at a point with the side that gives it, and the altitudes to keep
 pub record Site : Type 0 where
-  pub dist : Point2 → Float
+  pub near : Point2 → FenceDistance
   pub minAlt : Float
   pub maxAlt : Float
 
 -- a fence alone
 abbrev pub fenceSite : Geofence → Site
-fenceSite f = record { dist = signedDistance (ringOf (f .poly)); minAlt = f .«min_alt_m»; maxAlt = f .«max_alt_m» }
+fenceSite f = record { near = nearest (ringOf (f .poly)); minAlt = f .«min_alt_m»; maxAlt = f .«max_alt_m» }
 
 -- the same, by lengths of its sides that were worked out before
 abbrev pub fenceSiteBy : Geofence → SideLengths → Site
-fenceSiteBy f lengths = record { dist = signedDistanceBy (ringOf (f .poly)) (lengths .m); minAlt = f .«min_alt_m»; maxAlt = f .«max_alt_m» }
+fenceSiteBy f lengths = record { near = nearestBy (ringOf (f .poly)) (lengths .m); minAlt = f .«min_alt_m»; maxAlt = f .«max_alt_m» }
 
 -- "all it was fed but the state"
 pub record Fed : Type 0 where

@@ -2,7 +2,6 @@
 -- `Settings` is what a run keeps, `Fed` what a step is fed (specs/Settings.antt): document 01's step is the one at `baseSettings` and a fence's site.
 use Prim.Native.Nat.{ℕ}
 use mathlib.Core.Bool.{Bool, true, false, cond}
-use lib.Ieee.{Float}
 use Rattle.float32.specs.Binary32.{zeroF}
 use Rattle.types.specs.declared.Action.{Action}
 use Rattle.types.specs.declared.Reason.{Reason}
@@ -19,6 +18,7 @@ use Rattle.types.specs.declared.Decision.{Decision}
 use Rattle.types.specs.Vec3.{altM, horizontalDistHome}
 use Rattle.types.specs.ActiveSet.{emptySet, requestedAction}
 use Rattle.geometry.specs.declared.Geofence.{Geofence}
+use Rattle.geometry.specs.declared.FenceDistance.{FenceDistance}
 use Rattle.config.specs.declared.Config.{Config}
 use Rattle.config.specs.Config.{validateConfig}
 use Rattle.energy.specs.Energy.{rtlEnergyAt, rtlEnergy}
@@ -76,14 +76,14 @@ glitchAfter third g = cond third noGlitch g
 abbrev pub origin : Vec3
 origin = record { n = zeroF; e = zeroF; d = zeroF }
 
-module _ (dist : Point2 → Float) where
+module _ (near : Point2 → FenceDistance) where
   -- what is read of a position
   abbrev pub placeOf : OptionPositionSample → OptionPlace
   placeOf OptionPositionSample.None = OptionPlace.None
   placeOf (OptionPositionSample.Some s) =
       OptionPlace.Some
       (record {
-        «fence_dist_m» = dist (record { n = s .pos .n; e = s .pos .e });
+        fence = near (record { n = s .pos .n; e = s .pos .e });
         «home_dist_m» = horizontalDistHome (s .pos);
         «alt_m» = altM (s .pos);
       })
@@ -103,7 +103,12 @@ marginAt (OptionPlace.Some p) margin = margin
 
 abbrev pub distOf : OptionPlace → OptionF32
 distOf OptionPlace.None = OptionF32.None
-distOf (OptionPlace.Some p) = OptionF32.Some (p .«fence_dist_m»)
+distOf (OptionPlace.Some p) = OptionF32.Some (p .fence .m)
+
+-- document 02, L1: "the side, or 255 where there is no distance"
+abbrev pub sideOf : OptionPlace → ℕ
+sideOf OptionPlace.None = 255
+sideOf (OptionPlace.Some p) = p .fence .side
 
 -- filter, valid position, energy, triggers, requests: all that is read off validated telemetry
 unfoldable pub sense : Settings → Site → TriggerState → GlitchState → Telemetry → Bool → Bool → Sensed
@@ -113,7 +118,7 @@ sense r site triggers glitch t invalid fault =
     let f = applyGlitchFilter (r .clock) glitch now (t .position) (cfg .«v_max») in
     let valid = positionValid (r .clock) now (f .position) (t .«ekf_ok») (cfg .«pos_fresh_ms») (cfg .«status_fresh_ms») in
     let remaining = freshRemainingWh (r .clock) now (t .battery) (cfg .«battery_fresh_ms») (cfg .«usable_capacity_wh») in
-    let place = placeOf (site .dist) (f .position) in
+    let place = placeOf (site .near) (f .position) in
     let estimate = energyAt cfg place remaining in
     let u = update (r .clock) triggers t cfg (site .minAlt) (site .maxAlt) (validPlace valid place) (marginAt place (estimate .«margin_wh»)) invalid fault in
     record {
@@ -124,6 +129,7 @@ sense r site triggers glitch t invalid fault =
       «position_valid» = valid;
       energy = estimate;
       «fence_dist_m» = distOf place;
+      side = sideOf place;
     }
 
 -- ---- confirmed disarm
@@ -159,6 +165,7 @@ disarmed cfg clock glitch =
             initialized = true;
           };
       decision = disarmedDecision cfg (clock .fault);
+      side = 255;
     }
 
 -- ---- any other step
@@ -198,6 +205,7 @@ flown r s arbiter gate clock t =
             initialized = true;
           };
       decision = decisionOf s (a .output) (clock .fault) (e .eligible);
+      side = s .side;
     }
 
 unfoldable pub step : Settings → Supervisor → Fed → Stepped

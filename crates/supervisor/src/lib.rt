@@ -1,10 +1,10 @@
 // The Rust's lib.rs: one step of the supervisor. Configuration and fence come with each call.
 ghost use mathlib.Core.Path.{_≡_};
 ghost use Rattle.time.specs.Time.{wrapping};
-ghost use Rattle.geometry.specs.Distance.{ringOf, signedDistanceBy};
+ghost use Rattle.geometry.specs.Distance.{ringOf, nearestBy};
 ghost use Rattle.supervisor.specs.Settings.{baseSettings, fenceSite, fenceSiteBy, fedAt};
 ghost use Rattle.supervisor.specs.Clock.{clockFault, soundClock, clockStep};
-ghost use Rattle.supervisor.specs.Step.{freshSupervisor, supervisorNew, placeOf, validPlace, marginAt, energyAt, distOf, sense, disarmedDecision, disarmed, decisionOf, flown, glitchAfter, triggersAfter, arbiterAfter, step};
+ghost use Rattle.supervisor.specs.Step.{freshSupervisor, supervisorNew, placeOf, validPlace, marginAt, energyAt, distOf, sideOf, sense, disarmedDecision, disarmed, decisionOf, flown, glitchAfter, triggersAfter, arbiterAfter, step};
 use arbiter::ArbiterState;
 use config::Config;
 use config::ConfigResult;
@@ -47,9 +47,11 @@ pub struct SupervisorResult {
     pub supervisor: Supervisor,
 }
 
+// A step's answer; beside the Decision the side of the fence that gave its distance, 255 where none did.
 pub struct Stepped {
     pub supervisor: Supervisor,
     pub decision: Decision,
+    pub side: u8,
 }
 
 // ---- the clock
@@ -149,17 +151,18 @@ pub struct Sensed {
     pub position_valid: bool,
     pub energy: EnergyEstimate,
     pub fence_dist_m: OptionF32,
+    pub side: u8,
 }
 
 fn place_of(pos: OptionPositionSample, poly: ConvexPolygon, lengths: SideLengths) -> OptionPlace
-    ensures { λ r. ⌜ r ≡ placeOf (signedDistanceBy (ringOf poly) (lengths .m)) pos ⌝ }
+    ensures { λ r. ⌜ r ≡ placeOf (nearestBy (ringOf poly) (lengths .m)) pos ⌝ }
 {
     match pos {
         OptionPositionSample::Some(s) => {
             let p = s.pos;
             let pt = Point2 { n: p.n, e: p.e };
             OptionPlace::Some(Place {
-                fence_dist_m: geometry::signed_distance_by(poly, lengths, pt),
+                fence: geometry::nearest_by(poly, lengths, pt),
                 home_dist_m: p.horizontal_dist_home(),
                 alt_m: p.alt_m(),
             })
@@ -205,8 +208,17 @@ fn dist_of(place: OptionPlace) -> OptionF32
     ensures { λ r. ⌜ r ≡ distOf place ⌝ }
 {
     match place {
-        OptionPlace::Some(p) => OptionF32::Some(p.fence_dist_m),
+        OptionPlace::Some(p) => OptionF32::Some(p.fence.m),
         OptionPlace::None => OptionF32::None,
+    }
+}
+
+fn side_of(place: OptionPlace) -> u8
+    ensures { λ r. ⌜ r ≡ sideOf place ⌝ }
+{
+    match place {
+        OptionPlace::Some(p) => p.fence.side,
+        OptionPlace::None => 255,
     }
 }
 
@@ -256,6 +268,7 @@ fn sense(
     let active = u.active;
     let requested = active.requested_action();
     let dist = dist_of(place);
+    let side = side_of(place);
     Sensed {
         triggers: next,
         glitch: kept,
@@ -264,6 +277,7 @@ fn sense(
         position_valid: valid,
         energy: estimate,
         fence_dist_m: dist,
+        side: side,
     }
 }
 
@@ -311,6 +325,7 @@ fn disarmed(cfg: Config, clock: ClockStep, glitch: GlitchState) -> Stepped
     Stepped {
         supervisor: s,
         decision: disarmed_decision(cfg, clock.fault),
+        side: 255,
     }
 }
 
@@ -395,6 +410,7 @@ fn flown(
     Stepped {
         supervisor: s,
         decision: decision_of(sensed, output, clock.fault, e.eligible),
+        side: sensed.side,
     }
 }
 

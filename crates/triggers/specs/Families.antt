@@ -203,8 +203,8 @@ fence clock s now OptionPlace.None flying minAlt maxAlt cfg =
     }
 fence clock s now (OptionPlace.Some p) flying minAlt maxAlt cfg =
     record {
-      approach = fenceApproach (p .«fence_dist_m») cfg;
-      breach = fenceBreach clock (s .«fence_breach_set») (s .«fence_breach_clear») now (p .«fence_dist_m») cfg;
+      approach = fenceApproach (p .fence .m) cfg;
+      breach = fenceBreach clock (s .«fence_breach_set») (s .«fence_breach_clear») now (p .fence .m) cfg;
       «alt_max» = altitudeMax clock (s .«alt_max_set») (s .«alt_max_clear») now (p .«alt_m») maxAlt cfg;
       «alt_min» = altitudeMin clock (s .«alt_min_set») (s .«alt_min_clear») now p flying minAlt cfg;
     }

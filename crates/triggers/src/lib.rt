@@ -5,6 +5,7 @@ ghost use Rattle.triggers.specs.Timer.{cleared, pending, heldSet, holdPa
 ghost use Rattle.triggers.specs.Families.{invalidInput, gcsAge, stageRequest, gcsClearing, gcsStage, gcsLink, rcLink, fewSats, manySats, poorHdop, goodHdop, degraded, recovered, fixed, gps, ekf, rested, fenceApproach, fenceBreach, altitudeMax, inAir, altitudeMin, fence, isPresent, staleBattery, lowVoltage, batteryWarn, batteryLow, batteryCritical, battery, energyMarginal, energy};
 ghost use Rattle.triggers.specs.Update.{freshTriggers, withoutGcsTimer, families, setIf, setOption, linkRequests, fenceRequests, batteryRequests, requests, nextTriggers, update};
 use config::Config;
+use geometry::FenceDistance;
 use types::Action;
 use types::ActiveSet;
 use types::GpsFix;
@@ -382,7 +383,7 @@ fn gps_held(s: TriggerState, now: u32, sample: OptionGpsSample, cfg: Config) -> 
 
 // What a step reads of a position, each worked out once: the distance from the fence and from home, and the height.
 pub struct Place {
-    pub fence_dist_m: f32,
+    pub fence: FenceDistance,
     pub home_dist_m: f32,
     pub alt_m: f32,
 }
@@ -520,8 +521,8 @@ fn fence_held(
     let l2 = s.alt_min_clear;
     match place {
         OptionPlace::Some(p) => {
-            let approach = fence_approach(p.fence_dist_m, cfg);
-            let breach = fence_breach(b1, b2, now, p.fence_dist_m, cfg);
+            let approach = fence_approach(p.fence.m, cfg);
+            let breach = fence_breach(b1, b2, now, p.fence.m, cfg);
             let alt_max = altitude_max(h1, h2, now, p.alt_m, max_alt_m, cfg);
             let alt_min = altitude_min(l1, l2, now, p, flying, min_alt_m, cfg);
             FenceHeld {

@@ -43,6 +43,8 @@ impl Buffer {
 /// What a call is handed.
 #[derive(Clone, Default)]
 pub struct Call {
+    /// Whether it is a call of the entry that writes the side.
+    pub with_side: bool,
     pub config: Vec<u8>,
     pub fence: Vec<u8>,
     pub state: Vec<u8>,
@@ -86,7 +88,12 @@ impl Sides {
             self.port[k].set(part);
         }
         let [config, fence, state, telemetry, output] = &mut self.rust;
-        let rust = frames::step_entry(
+        let entry = if call.with_side {
+            frames::step_side_entry
+        } else {
+            frames::step_entry
+        };
+        let rust = entry(
             config.used(),
             fence.used(),
             state.used_mut(),
@@ -94,7 +101,12 @@ impl Sides {
             output.used_mut(),
         );
         let [config, fence, state, telemetry, output] = &mut self.port;
-        let port = port::step(
+        let entry = if call.with_side {
+            port::step_side
+        } else {
+            port::step
+        };
+        let port = entry(
             config.used(),
             fence.used(),
             state.used_mut(),

@@ -54,7 +54,8 @@ impl Driver {
             let t = pilot.next(&mut self.random, &setup, &old);
             call.telemetry = vec![0; TELEMETRY_FRAME];
             put_frame(TELEMETRY, &t, &mut call.telemetry);
-            let room = 95 + self.random.below(3) * 20;
+            call.with_side = self.random.chance(3);
+            let room = 95 + call.with_side as usize + self.random.below(3) * 20;
             call.output = (0..room).map(|k| k as u8 ^ 0x5A).collect();
             if self.random.chance(3) {
                 self.decline(&call)?;
@@ -65,8 +66,14 @@ impl Driver {
             let decision = both.step(&call.telemetry);
             let number = self.sides.step(&mut call)?;
             assert_eq!(number, 0, "the Rust's entry declined a step of a flight");
+            let mut shown = call.output.clone();
+            if call.with_side {
+                let side = shown.remove(94);
+                self.coverage.add("side", format!("{side}"));
+                shown[..4].copy_from_slice(&decision[..4]);
+            }
             assert_eq!(
-                call.output[..95],
+                shown[..95],
                 decision,
                 "the Rust's entry and the Rust differ"
             );
@@ -201,6 +208,11 @@ impl Driver {
             .into_iter()
             .filter(|which| !self.coverage.has("number", which));
         let mut missing: Vec<String> = missing.map(|which| format!("number: {which}")).collect();
+        for side in ["0", "1", "2", "3", "255"] {
+            if !self.coverage.has("side", side) {
+                missing.push(format!("side: {side}"));
+            }
+        }
         for number in ["0", "5"] {
             if !self.coverage.has("fresh", number) {
                 missing.push(format!("fresh: {number}"));

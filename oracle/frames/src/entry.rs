@@ -1,11 +1,12 @@
-//! The two entries in plain Rust: what they return, what they write, and what they leave.
+//! The entries in plain Rust: what they return, what they write, and what they leave.
 
 use failsafe_open as rust;
 
 use crate::bytes::{NO_ROOM, put_frame, read_frame, write_frame};
 use crate::codec::{CONFIG, DECISION, STATE, TELEMETRY, fence_open, read_fence};
 use crate::state::State;
-use crate::{DECISION_FRAME, STATE_FRAME};
+use crate::side::{put_side, side_of};
+use crate::{DECISION_FRAME, SIDE_FRAME, STATE_FRAME};
 
 /// 20 to 28 for one build of the Rust.
 macro_rules! config_error {
@@ -30,9 +31,11 @@ macro_rules! config_error {
 config_error!(config_error_core, failsafe_core);
 config_error!(config_error_open, failsafe_open);
 
-/// Configuration frame, fence frame, fence rules, configuration rules, state, telemetry, output.
+/// Configuration frame, fence frame, fence rules, configuration rules, state, telemetry, output. `with_side` is
+/// whether kind 6 is written.
 #[inline]
 fn step(
+    with_side: bool,
     config: &[u8],
     fence: &[u8],
     state: &mut [u8],
@@ -45,13 +48,16 @@ fn step(
     rust::validate_config(&cfg, &fence).map_err(config_error_open)?;
     let held = State::read_frame(state)?;
     let raw: rust::Telemetry = read_frame(TELEMETRY, telemetry)?;
-    if output.len() < DECISION_FRAME {
+    if output.len() < if with_side { SIDE_FRAME } else { DECISION_FRAME } {
         return Err(NO_ROOM);
     }
     let mut supervisor = held.with(cfg, fence);
     let decision = supervisor.step(&raw);
     put_frame(STATE, &State::of(&supervisor), state);
     put_frame(DECISION, &decision, output);
+    if with_side {
+        put_side(side_of(&supervisor.fence, &raw, &decision), output);
+    }
     Ok(())
 }
 
@@ -63,7 +69,21 @@ pub fn step_entry(
     telemetry: &[u8],
     output: &mut [u8],
 ) -> u32 {
-    match step(config, fence, state, telemetry, output) {
+    match step(false, config, fence, state, telemetry, output) {
+        Ok(()) => 0,
+        Err(number) => number,
+    }
+}
+
+/// The same with kind 6.
+pub fn step_side_entry(
+    config: &[u8],
+    fence: &[u8],
+    state: &mut [u8],
+    telemetry: &[u8],
+    output: &mut [u8],
+) -> u32 {
+    match step(true, config, fence, state, telemetry, output) {
         Ok(()) => 0,
         Err(number) => number,
     }

@@ -7,6 +7,7 @@
 mod bytes;
 mod codec;
 mod entry;
+mod side;
 mod state;
 
 pub use bytes::{
@@ -17,12 +18,14 @@ pub use codec::{
     CONFIG, Corners, DECISION, FENCE, FENCE_ONCE_ROUND, FenceSent, REFUSAL, STATE, TELEMETRY,
     fence_core, fence_open, put_refusal, read_fence, write_fence,
 };
-pub use entry::{config_error_core, config_error_open, fresh_entry, step_entry};
+pub use entry::{config_error_core, config_error_open, fresh_entry, step_entry, step_side_entry};
+pub use side::{DECISION_SIDE, put_side, side_of};
 pub use state::State;
 
 /// Bytes of whole frames.
 pub const CONFIG_FRAME: usize = 246;
 pub const TELEMETRY_FRAME: usize = 106;
 pub const DECISION_FRAME: usize = 95;
+pub const SIDE_FRAME: usize = 96;
 pub const STATE_FRAME: usize = 186;
 pub const REFUSAL_FRAME: usize = 6;

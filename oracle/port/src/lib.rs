@@ -1,4 +1,4 @@
-//! The port's two entries, as C sees them: linked from libfailsafe.a, or, with the feature `standin`, played by the
+//! The port's entries, as C sees them: linked from libfailsafe.a, or, with the feature `standin`, played by the
 //! plain Rust entries.
 
 #[cfg(feature = "standin")]
@@ -6,6 +6,18 @@ mod standin;
 
 unsafe extern "C" {
     fn failsafe_step(
+        config: *const u8,
+        config_len: usize,
+        fence: *const u8,
+        fence_len: usize,
+        state: *mut u8,
+        state_len: usize,
+        telemetry: *const u8,
+        telemetry_len: usize,
+        output: *mut u8,
+        output_len: usize,
+    ) -> u32;
+    fn failsafe_step_side(
         config: *const u8,
         config_len: usize,
         fence: *const u8,
@@ -30,6 +42,30 @@ pub fn step(
     // SAFETY: five slices that are alive and do not overlap.
     unsafe {
         failsafe_step(
+            config.as_ptr(),
+            config.len(),
+            fence.as_ptr(),
+            fence.len(),
+            state.as_mut_ptr(),
+            state.len(),
+            telemetry.as_ptr(),
+            telemetry.len(),
+            output.as_mut_ptr(),
+            output.len(),
+        )
+    }
+}
+
+pub fn step_side(
+    config: &[u8],
+    fence: &[u8],
+    state: &mut [u8],
+    telemetry: &[u8],
+    output: &mut [u8],
+) -> u32 {
+    // SAFETY: five slices that are alive and do not overlap.
+    unsafe {
+        failsafe_step_side(
             config.as_ptr(),
             config.len(),
             fence.as_ptr(),

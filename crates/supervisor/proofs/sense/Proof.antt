@@ -34,9 +34,12 @@ requested-action-requires c κs = search needs
 dist-of-requires : tie.Need-dist-of-requires
 dist-of-requires c κs = search needs
 
+side-of-requires : tie.Need-side-of-requires
+side-of-requires c κs = search needs
+
 returns : tie.Need-returns
 unfolding sense
-returns c = rw (← c .before .before .before .before .before .before .before .before .before .before .before .before .apply-glitch-filter .ensures, ← c .before .before .before .before .before .before .before .before .before .before .position-valid .ensures, ← c .before .before .before .before .before .before .before .before .before .fresh-remaining-wh .ensures, ← c .before .before .before .before .before .before .before .before .place-of .ensures, ← c .before .before .before .before .before .before .before .energy-at .ensures, ← c .before .before .before .before .before .before .margin-at .ensures, ← c .before .before .before .before .before .valid-place .ensures, ← c .before .before .before .before .update .ensures, ← c .before .requested-action .ensures .0, ← c .dist-of .ensures)
+returns c = rw (← c .before .before .before .before .before .before .before .before .before .before .before .before .before .apply-glitch-filter .ensures, ← c .before .before .before .before .before .before .before .before .before .before .before .position-valid .ensures, ← c .before .before .before .before .before .before .before .before .before .before .fresh-remaining-wh .ensures, ← c .before .before .before .before .before .before .before .before .before .place-of .ensures, ← c .before .before .before .before .before .before .before .before .energy-at .ensures, ← c .before .before .before .before .before .before .before .margin-at .ensures, ← c .before .before .before .before .before .before .valid-place .ensures, ← c .before .before .before .before .before .update .ensures, ← c .before .before .requested-action .ensures .0, ← c .before .dist-of .ensures, ← c .side-of .ensures)
 
 pub sense-spec : {M : Type 1} → statement M
 sense-spec =
@@ -52,4 +55,5 @@ sense-spec =
     update-requires
     requested-action-requires
     dist-of-requires
+    side-of-requires
     returns)

@@ -2,7 +2,7 @@
 use mathlib.Core.Path.{_≡_}
 use mathlib.Core.List.{List}
 use Rattle.types.specs.declared.Point2.{Point2}
-use Rattle.geometry.specs.Distance.{sideLengths, signedDistance, signedDistanceBy}
+use Rattle.geometry.specs.Distance.{sideLengths, nearest, nearestBy}
 use Rattle.geometry.proofs.Lengths.{by-side-lengths}
 use borrow.Author.Needs.{needs}
 use Rattle.supervisor.proofs.Supervisor.step.Statement.{statement}
@@ -15,7 +15,7 @@ step-by-requires : tie.Need-step-by-requires
 step-by-requires c κs = search needs
 
 -- the distance by the sides' own lengths is the distance
-by-lengths : (l : List Point2) → signedDistanceBy l (sideLengths l .m) ≡ signedDistance l
+by-lengths : (l : List Point2) → nearestBy l (sideLengths l .m) ≡ nearest l
 by-lengths l i p = by-side-lengths l p i
 
 returns : tie.Need-returns

@@ -1,0 +1,2 @@
+-- The definitions that the contracts of `entries` and of the C entries cite.
+pub mod Entry

@@ -1,0 +1,124 @@
+// The one step behind every C entry, and the fresh state: number and buffers for all bytes. The entries themselves are in `failsafe`.
+ghost use mathlib.Core.Path.{_≡_};
+ghost use mathlib.Core.List.{_++_};
+ghost use Prim.Native.Nat.{_≤_};
+ghost use lib.ListN.{length, drop};
+ghost use Rattle.flight.specs.Flight.{stepFlight};
+ghost use Rattle.frame_state.specs.StateFrame.{readState};
+ghost use Rattle.frame_telemetry.specs.TelemetryFrame.{readTelemetry};
+ghost use Rattle.entries.specs.Entry.{outputFrame, outputSize, written, afterTelemetry, afterState, stepAny, freshCall};
+use flight::Flight;
+use frame_state::StateRead;
+use frame_telemetry::TelemetryRead;
+use supervisor::Supervisor;
+use types::Decision;
+use types::Telemetry;
+
+fn output_size(with_side: bool) -> usize
+    ensures { λ r. ⌜ r ≡ outputSize «with_side» ⌝ }
+{
+    if with_side { 96 } else { 95 }
+}
+
+// The frame of kind 4; where the side is wanted, one byte more is put in, so that there is one call of the writer.
+fn write_output(with_side: bool, d: Decision, side: u8, output: &mut [u8])
+    requires { ⌜ outputSize «with_side» ≤ length (now output) ⌝ }
+    ensures { λ _. ⌜ now (output .exit) ≡ outputFrame «with_side» d side ++ drop (outputSize «with_side») (now (output .entry)) ⌝ }
+{
+    let eligible = d.disarm_eligible;
+    frame_decision::write_decision(output, d);
+    if with_side {
+        frame_side::put_side(output, side, eligible);
+    }
+}
+
+// The step, where there is room for its Decision.
+fn step_write(
+    with_side: bool,
+    flight: Flight,
+    s: Supervisor,
+    t: Telemetry,
+    state: &mut [u8],
+    output: &mut [u8],
+) -> u32
+    requires { ⌜ length (now state) ≡ 186 ⌝ }
+    ensures { λ r. ⌜ r ≡ written «with_side» (stepFlight flight s t) (now (state .entry)) (now (output .entry)) .number ⌝ }
+    ensures { λ _. ⌜ now (state .exit) ≡ written «with_side» (stepFlight flight s t) (now (state .entry)) (now (output .entry)) .state ⌝ }
+    ensures { λ _. ⌜ now (output .exit) ≡ written «with_side» (stepFlight flight s t) (now (state .entry)) (now (output .entry)) .output ⌝ }
+{
+    if output.len() < output_size(with_side) {
+        return 5;
+    }
+    let next = flight::step_flight(flight, s, t);
+    let after = next.supervisor;
+    let d = next.decision;
+    frame_state::write_state(state, after);
+    write_output(with_side, d, next.side, output);
+    0
+}
+
+fn step_telemetry(
+    with_side: bool,
+    flight: Flight,
+    s: Supervisor,
+    state: &mut [u8],
+    telemetry: &[u8],
+    output: &mut [u8],
+) -> u32
+    requires { ⌜ length (now state) ≡ 186 ⌝ }
+    ensures { λ r. ⌜ r ≡ afterTelemetry «with_side» (readTelemetry (now (telemetry .entry))) flight s (now (state .entry)) (now (output .entry)) .number ⌝ }
+    ensures { λ _. ⌜ now (state .exit) ≡ afterTelemetry «with_side» (readTelemetry (now (telemetry .entry))) flight s (now (state .entry)) (now (output .entry)) .state ⌝ }
+    ensures { λ _. ⌜ now (output .exit) ≡ afterTelemetry «with_side» (readTelemetry (now (telemetry .entry))) flight s (now (state .entry)) (now (output .entry)) .output ⌝ }
+{
+    match frame_telemetry::read_telemetry(telemetry) {
+        TelemetryRead::Refused(n) => n as u32,
+        TelemetryRead::Frame(t) => step_write(with_side, flight, s, t, state, output),
+    }
+}
+
+// State, then telemetry. Each refusal ends the call where it is found, so no blank state or Decision is handed on.
+fn step_state(
+    with_side: bool,
+    flight: Flight,
+    state: &mut [u8],
+    telemetry: &[u8],
+    output: &mut [u8],
+) -> u32
+    ensures { λ r. ⌜ r ≡ afterState «with_side» (readState (now (state .entry))) flight (now (state .entry)) (now (telemetry .entry)) (now (output .entry)) .number ⌝ }
+    ensures { λ _. ⌜ now (state .exit) ≡ afterState «with_side» (readState (now (state .entry))) flight (now (state .entry)) (now (telemetry .entry)) (now (output .entry)) .state ⌝ }
+    ensures { λ _. ⌜ now (output .exit) ≡ afterState «with_side» (readState (now (state .entry))) flight (now (state .entry)) (now (telemetry .entry)) (now (output .entry)) .output ⌝ }
+{
+    match frame_state::read_state(state) {
+        StateRead::Refused(n) => n as u32,
+        StateRead::Frame(s) => step_telemetry(with_side, flight, s, state, telemetry, output),
+    }
+}
+
+// One step: `with_side` is whether kind 6 is written, and not kind 4.
+pub fn step_any(
+    with_side: bool,
+    config: &[u8],
+    fence: &[u8],
+    state: &mut [u8],
+    telemetry: &[u8],
+    output: &mut [u8],
+) -> u32
+    ensures { λ r. ⌜ r ≡ stepAny «with_side» (now (config .entry)) (now (fence .entry)) (now (state .entry)) (now (telemetry .entry)) (now (output .entry)) .number ⌝ }
+    ensures { λ _. ⌜ now (state .exit) ≡ stepAny «with_side» (now (config .entry)) (now (fence .entry)) (now (state .entry)) (now (telemetry .entry)) (now (output .entry)) .state ⌝ }
+    ensures { λ _. ⌜ now (output .exit) ≡ stepAny «with_side» (now (config .entry)) (now (fence .entry)) (now (state .entry)) (now (telemetry .entry)) (now (output .entry)) .output ⌝ }
+{
+    let flight = flight::read_flight(config, fence);
+    if flight.refused != 0 {
+        return flight.refused as u32;
+    }
+    step_state(with_side, flight, state, telemetry, output)
+}
+
+// A fresh state into the first 186 bytes; later bytes stay.
+pub fn fresh(state: &mut [u8]) -> u32
+    ensures { λ r. ⌜ r ≡ freshCall (now (state .entry)) .number ⌝ }
+    ensures { λ _. ⌜ now (state .exit) ≡ freshCall (now (state .entry)) .state ⌝ }
+{
+    let n = frame_state::write_fresh(state);
+    n as u32
+}

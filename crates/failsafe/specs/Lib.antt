@@ -1,2 +1,0 @@
--- The definitions that the contracts of `failsafe` cite.
-pub mod Entry

@@ -1,0 +1,1 @@
+// The order of floats, for the proofs: no code.

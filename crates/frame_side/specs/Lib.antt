@@ -1,0 +1,2 @@
+-- The definitions that the contracts of `frame_side` cite.
+pub mod SideFrame
