@@ -1,5 +1,5 @@
 #!/usr/bin/env bash
-# Times the port beside the Rust (docs/RUST.md says how to read it): the step entry, the frames, then `decide` on a stream of
+# Times the port beside the Rust (docs/RUST.md says how to read it): a map of points, the step entry, the frames, then `decide` on a stream of
 # 200,000 telemetry frames. The Rust is built twice: as cargo's release profile does, and with everything in one unit.
 # Needs the Rust's source. Nothing here passes or fails.
 set -eu
@@ -18,5 +18,6 @@ export CUTHRANSI_STATICLIB
 for profile in plain timed; do
     echo "== the Rust's profile: $profile"
     rust=$(oracle/run.sh --profile "$profile" --path decide)
+    "$(oracle/run.sh --profile "$profile" --path inside)" time
     "$(oracle/run.sh --profile "$profile" --path bench)" "$top/target/bin/decide" "$rust" "$build/stream"
 done

@@ -114,6 +114,15 @@ uint32_t failsafe_step_side(const uint8_t *config, size_t config_len,
                             const uint8_t *telemetry, size_t telemetry_len,
                             uint8_t *output, size_t output_len);
 
+/* Which of a row of points are inside the fence, for a map. A point is 8 bytes: north and east, each a binary32 number, in metres from
+ * home. For each point two bytes are written: 1 for inside (on a side too) or 0, and the number of sides that were read: the test
+ * stops at the first side with a negative distance. Later output bytes stay. The fence is read and accepted once, and its
+ * sides' lengths are worked out once. Answers 0; or, with no byte changed, the fence's refusal, 3 for points of a length that is not
+ * a multiple of 8, 5 for an output under 2 bytes a point. */
+uint32_t failsafe_inside(const uint8_t *fence, size_t fence_len,
+                         const uint8_t *points, size_t points_len,
+                         uint8_t *output, size_t output_len);
+
 /* A fresh state in the first 186 bytes of state; later bytes stay. The steps take a state slice of
  * exactly 186 bytes. */
 uint32_t failsafe_fresh(uint8_t *state, size_t state_len);

@@ -9,6 +9,10 @@
                                         Decision of kind 6 with its two corners)
   frames.py draw INPUT [FILE]           draws the fence of a flight or of frames (INPUT: - for standard input) as SVG,
                                         north up, with the number of each side, in the order in which the fence is held
+  frames.py points POINTS.txt [FILE]    packs points, a line of north and east each, into 8 bytes each, for failsafe_inside
+  frames.py map INPUT POINTS.txt ANSWERS [FILE]
+                                        draws the fence with the points, those inside filled (ANSWERS: what
+                                        failsafe_inside wrote; examples/map.c calls it)
   frames.py energy NUMBERS.json         works out the energy of a return in whole numbers, a line for each step, so
   frames.py energy NAME=NUMBER ..       that it can be checked on paper (docs/ENERGY.md). All thirteen are wanted:
      position_north_mm, position_east_mm, home_north_mm, home_east_mm   from -10000000 to 10000000
@@ -563,8 +567,9 @@ def held(corners):
     return corners if area > 0 else corners[::-1]
 
 
-def draw_fence(body):
-    """A fence as SVG: its sides from corner to corner, and each side's number a little beside its middle."""
+def draw_fence(body, points=()):
+    """A fence as SVG: its sides from corner to corner, and each side's number a little beside its middle. Points are
+    (north, east, inside); those beyond the fence's size on each side are left out."""
     count, low, high = body.u8(), body.f32(), body.f32()
     sent = [(body.f32(), body.f32()) for _ in range(count)]
     if count < 3 or not all(abs(x) <= 10000 for corner in sent for x in corner):
@@ -573,20 +578,25 @@ def draw_fence(body):
     south, north = min(n for n, _ in corners), max(n for n, _ in corners)
     west, east = min(e for _, e in corners), max(e for _, e in corners)
     size = max(north - south, east - west, 1.0)
+    edge = 140 if points else 40
 
     def place(n, e):
-        return 40 + 520 * (e - west) / size, 40 + 520 * (north - n) / size
+        return edge + 520 * (e - west) / size, edge + 520 * (north - n) / size
 
-    points = [place(n, e) for n, e in corners]
-    width, height = 80 + 520 * (east - west) / size, 110 + 520 * (north - south) / size
+    ends = [place(n, e) for n, e in corners]
+    width, height = 2 * edge + 520 * (east - west) / size, 2 * edge + 30 + 520 * (north - south) / size
     lines = [f'<svg xmlns="http://www.w3.org/2000/svg" width="{width:.0f}" height="{height:.0f}" font-family="sans-serif">',
              '<rect width="100%" height="100%" fill="white"/>']
-    for side, ((x, y), (x1, y1)) in enumerate(zip(points, points[1:] + points[:1])):
+    for side, ((x, y), (x1, y1)) in enumerate(zip(ends, ends[1:] + ends[:1])):
         long = max(((x1 - x) ** 2 + (y1 - y) ** 2) ** 0.5, 1.0)
         at_x, at_y = (x + x1) / 2 - 12 * (y1 - y) / long, (y + y1) / 2 + 12 * (x1 - x) / long
         lines.append(f'<line x1="{x:.1f}" y1="{y:.1f}" x2="{x1:.1f}" y2="{y1:.1f}" stroke="black"/>')
         lines.append(f'<text x="{at_x:.1f}" y="{at_y:.1f}" font-size="14" text-anchor="middle" dominant-baseline="central">{side}</text>')
-    lines += [f'<circle cx="{x:.1f}" cy="{y:.1f}" r="3"/>' for x, y in points]
+    lines += [f'<circle cx="{x:.1f}" cy="{y:.1f}" r="3"/>' for x, y in ends]
+    for n, e, yes in points:
+        if abs(n - (south + north) / 2) <= size and abs(e - (west + east) / 2) <= size:
+            x, y = place(n, e)
+            lines.append(f'<circle cx="{x:.1f}" cy="{y:.1f}" r="4" stroke="black" fill="{"steelblue" if yes else "white"}"/>')
     told = f"{KINDS[body.kind]}, {number(low)} to {number(high)} m; north {number(south)} to {number(north)}, east {number(west)} to {number(east)}"
     lines.append(f'<text x="8" y="{height - 12:.0f}" font-size="12">{told}</text>')
     return "\n".join(lines + ["</svg>", ""])
@@ -670,17 +680,50 @@ def write_bytes(bytes_, to):
         sys.stdout.buffer.write(bytes_)
 
 
-def draw_command(words):
-    for at, kind, bytes_ in frames_of(words[0]):
+def draw(path, points=()):
+    """The fence of a flight or of frames as SVG."""
+    for at, kind, bytes_ in frames_of(path):
         if kind in FENCES:
             body = Body(kind, bytes_)
             try:
-                drawn = draw_fence(body)
+                drawn = draw_fence(body, points)
                 body.end()
             except Bad as bad:
                 raise Bad(f"byte {at}: {bad}") from None
-            return write_bytes(drawn.encode(), words[1:])
-    raise Bad(f"{words[0]}: there is no fence")
+            return drawn.encode()
+    raise Bad(f"{path}: there is no fence")
+
+
+def draw_command(words):
+    write_bytes(draw(words[0]), words[1:])
+
+
+def points_of(path):
+    """The points of a text: a line of north and east each."""
+    points = []
+    try:
+        text = read_bytes(path).decode()
+    except UnicodeDecodeError:
+        raise Bad(f"{path}: not a text file") from None
+    for at, line in enumerate(text.splitlines(), 1):
+        words = line.split()
+        try:
+            north, east = [struct.unpack("<f", pack_f32(float(word), f"line {at}"))[0] for word in words]
+        except ValueError:
+            raise Bad(f"{path}: line {at}: two numbers are wanted, north and east") from None
+        points.append((north, east))
+    return points
+
+
+def points_command(words):
+    write_bytes(b"".join(struct.pack("<ff", *point) for point in points_of(words[0])), words[1:])
+
+
+def map_command(words):
+    points, answers = points_of(words[1]), read_bytes(words[2])
+    if len(answers) != 2 * len(points):
+        raise Bad(f"{words[2]}: {len(answers)} bytes, and {2 * len(points)} are wanted for {len(points)} points")
+    write_bytes(draw(words[0], [(n, e, answers[2 * k]) for k, (n, e) in enumerate(points)]), words[3:])
 
 
 def show_command(words):
@@ -698,6 +741,10 @@ def main(words):
         command = pack_command
     elif words[:1] == ["draw"] and len(words) in (2, 3):
         command = draw_command
+    elif words[:1] == ["points"] and len(words) in (2, 3):
+        command = points_command
+    elif words[:1] == ["map"] and len(words) in (4, 5):
+        command = map_command
     elif words[:1] == ["show"] and flags <= 1 and words[-1] != "--input" and len(words) <= 2 + 2 * flags:
         command = show_command
     elif words[:1] == ["energy"] and len(words) > 1:

@@ -2,6 +2,7 @@
 ghost use mathlib.Core.Bool.{true, false};
 ghost use mathlib.Core.Path.{_≡_};
 ghost use Rattle.entries.specs.Entry.{stepAny, freshCall};
+ghost use Rattle.inside.specs.Call.{insideCall};
 ghost use Rattle.trial.specs.Call.{trialCall};
 ghost use Rattle.whole_energy.specs.Call.{energyCall};
 
@@ -59,4 +60,13 @@ pub extern "C" fn failsafe_whole_energy(input: &[u8], output: &mut [u8]) -> u32
     ensures { λ _. ⌜ now (output .exit) ≡ energyCall (now (input .entry)) (now (output .entry)) .output ⌝ }
 {
     whole_energy::whole_energy(input, output)
+}
+
+// Document 02, L9: a row of points against one fence.
+#[no_mangle]
+pub extern "C" fn failsafe_inside(fence: &[u8], points: &[u8], output: &mut [u8]) -> u32
+    ensures { λ r. ⌜ r ≡ insideCall (now (fence .entry)) (now (points .entry)) (now (output .entry)) .number ⌝ }
+    ensures { λ _. ⌜ now (output .exit) ≡ insideCall (now (fence .entry)) (now (points .entry)) (now (output .entry)) .output ⌝ }
+{
+    inside::inside_call(fence, points, output)
 }

@@ -3,7 +3,7 @@ use Prim.Native.Nat.{ℕ, suc, _+_, _-_, _*_, _≤_, _<_}
 use native.Mathlib.Nat.{mul-assoc, mul-comm, mul-lt-mul-of-pos-right, lt-of-mul-lt-mul-right, eq-of-mul-eq-mul-right}
 use native.Mathlib.Omega.{arith}
 use mathlib.Core.Path.{_≡_, refl, sym, ap, _∙_}
-use mathlib.Core.Bool.{Bool, true, false, _&&_, _||_, and-true, or-true, true≢false, false≢true, and-eq-true-iff}
+use mathlib.Core.Bool.{Bool, true, false, not, _&&_, _||_, and-true, or-true, true≢false, false≢true, and-eq-true-iff}
 use lib.Dec.{ltb, eqb}
 use lib.Ieee.{Float, nan, inf, fin, up, down, below, level, lt, le, eq}
 use lib.Ieee.Fits.{down-pos}
@@ -235,7 +235,7 @@ le-of-lt : (x y : Float) → lt x y ≡ true → le x y ≡ true
 unfolding le
 le-of-lt x y p = rw p
 
-le-lt : (x y z : Float) → le x y ≡ true → lt y z ≡ true → lt x z ≡ true
+pub le-lt : (x y z : Float) → le x y ≡ true → lt y z ≡ true → lt x z ≡ true
 unfolding le
 le-lt x y z p q = by (lt x y) refl p
   where
@@ -258,3 +258,16 @@ not-less x y p = not-true (lt x y) (λ e. true≢false (sym (le-of-lt x y e) ∙
 
 pub lt-irrefl : (x : Float) → lt x x ≡ false
 lt-irrefl x = not-true (lt x x) (λ e. true≢false (sym e ∙ lt-asym x x e))
+
+-- of numbers, one is at most another exactly where the other is not less
+pub le-not-lt : (x y : Float) → Number x → Number y → le x y ≡ not (lt y x)
+unfolding le
+le-not-lt x y u v = by (lt y x) (lt x y) (eq x y) refl refl refl
+  where
+    by : (c a b : Bool) → lt y x ≡ c → lt x y ≡ a → eq x y ≡ b → a || b ≡ not c
+    by true true b p q r = absurd (true≢false (sym q ∙ lt-asym y x p))
+    by true false true p q r = absurd (true≢false (sym (eq-lt x y x r p) ∙ lt-irrefl x))
+    by true false false p q r = refl
+    by false true b p q r = refl
+    by false false true p q r = refl
+    by false false false p q r = absurd (true≢false (sym (total x y u v q r) ∙ p))

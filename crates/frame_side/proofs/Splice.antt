@@ -50,13 +50,13 @@ module _ (f : List ℕ) (n : length f ≡ 95) where
       let hm : length (h ++ m) ≡ 94 = let a = length-append h m in let b = four 6 94 in let c = middle-long in omega arith in
       let hms : length ((h ++ m) ++ s) ≡ 95 = let a = length-append (h ++ m) s in let b = one side in omega arith in
       let first : sets (sets l 0 f) 0 h ≡ sets l 0 ((h ++ m) ++ (e ++ [])) =
-          ap (λ (x : List ℕ). sets (sets l 0 x) 0 h) parts
-          ∙ over l 0 (take 4 f) h (m ++ e) (first-long ∙ sym (four 6 94))
-          ∙ ap (sets l 0) (sym (append-assoc h m e) ∙ ap (λ (x : List ℕ). (h ++ m) ++ x) (sym (append-nil e))) in
+      ap (λ (x : List ℕ). sets (sets l 0 x) 0 h) parts
+      ∙ over l 0 (take 4 f) h (m ++ e) (first-long ∙ sym (four 6 94))
+      ∙ ap (sets l 0) (sym (append-assoc h m e) ∙ ap (λ (x : List ℕ). (h ++ m) ++ x) (sym (append-nil e))) in
       let second : sets (sets l 0 ((h ++ m) ++ (e ++ []))) 94 s ≡ sets l 0 ((h ++ m) ++ (s ++ [])) =
-          ap (λ (k : ℕ). sets (sets l 0 ((h ++ m) ++ (e ++ []))) k s) (sym hm ∙ sym (zero-add _)) ∙ over-middle l 0 (h ++ m) e s [] (last-long ∙ sym (one side)) in
+      ap (λ (k : ℕ). sets (sets l 0 ((h ++ m) ++ (e ++ []))) k s) (sym hm ∙ sym (zero-add _)) ∙ over-middle l 0 (h ++ m) e s [] (last-long ∙ sym (one side)) in
       let third : sets (sets l 0 ((h ++ m) ++ s)) 95 e ≡ sets l 0 (((h ++ m) ++ s) ++ e) =
-          ap (λ (k : ℕ). sets (sets l 0 ((h ++ m) ++ s)) k e) (sym hms ∙ sym (zero-add _)) ∙ sym (sets-append l 0 ((h ++ m) ++ s) e) in
+      ap (λ (k : ℕ). sets (sets l 0 ((h ++ m) ++ s)) k e) (sym hms ∙ sym (zero-add _)) ∙ sym (sets-append l 0 ((h ++ m) ++ s) e) in
       ap (λ (x : List ℕ). sets (sets x 94 s) 95 e) first
       ∙ ap (λ (x : List ℕ). sets x 95 e) (second ∙ ap (λ (x : List ℕ). sets l 0 ((h ++ m) ++ x)) (append-nil s))
       ∙ third
@@ -73,10 +73,10 @@ taken-out s z x n e =
     let w : length (t ++ z ∷ []) ≡ 95 = let a = length-append t (z ∷ []) in omega arith in
     let dn : length (h ++ drop 4 t) ≡ 94 = let a = length-append h (drop 4 t) in let b = length-drop 4 t in omega arith in
     let first : sets (t ++ z ∷ []) 0 h ≡ (h ++ drop 4 t) ++ z ∷ [] =
-        stored (t ++ z ∷ []) h (omega arith)
-        ∙ ap (λ (k : ℕ). h ++ drop k (t ++ z ∷ [])) hn
-        ∙ ap (λ (y : List ℕ). h ++ y) (drop-append-le 4 t (z ∷ []) (omega arith))
-        ∙ sym (append-assoc h (drop 4 t) (z ∷ [])) in
+    stored (t ++ z ∷ []) h (omega arith)
+    ∙ ap (λ (k : ℕ). h ++ drop k (t ++ z ∷ [])) hn
+    ∙ ap (λ (y : List ℕ). h ++ y) (drop-append-le 4 t (z ∷ []) (omega arith))
+    ∙ sym (append-assoc h (drop 4 t) (z ∷ [])) in
     ap (λ (y : List ℕ). set y 94 x) first
     ∙ set-at (h ++ drop 4 t) z [] x 94 dn
     ∙ ap (λ (y : List ℕ). (h ++ drop 4 t) ++ y) (sym e)

@@ -105,7 +105,7 @@ pub fn side_lengths(poly: ConvexPolygon) -> SideLengths
 }
 
 // The distance from a side whose length is known.
-fn edge_signed_distance(a: Point2, b: Point2, len: f32, p: Point2) -> f32
+pub fn edge_signed_distance(a: Point2, b: Point2, len: f32, p: Point2) -> f32
     ensures { λ r. ⌜ r ≡ edgeSignedDistanceBy p ((a, b), len) ⌝ }
 {
     if len < 1e-6 {

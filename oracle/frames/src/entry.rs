@@ -4,8 +4,8 @@ use failsafe_open as rust;
 
 use crate::bytes::{NO_ROOM, put_frame, read_frame, write_frame};
 use crate::codec::{CONFIG, DECISION, STATE, TELEMETRY, fence_open, read_fence};
-use crate::state::State;
 use crate::side::{put_side, side_of};
+use crate::state::State;
 use crate::{DECISION_FRAME, SIDE_FRAME, STATE_FRAME};
 
 /// 20 to 28 for one build of the Rust.
@@ -48,7 +48,13 @@ fn step(
     rust::validate_config(&cfg, &fence).map_err(config_error_open)?;
     let held = State::read_frame(state)?;
     let raw: rust::Telemetry = read_frame(TELEMETRY, telemetry)?;
-    if output.len() < if with_side { SIDE_FRAME } else { DECISION_FRAME } {
+    if output.len()
+        < if with_side {
+            SIDE_FRAME
+        } else {
+            DECISION_FRAME
+        }
+    {
         return Err(NO_ROOM);
     }
     let mut supervisor = held.with(cfg, fence);

@@ -29,6 +29,14 @@ unsafe extern "C" {
         output: *mut u8,
         output_len: usize,
     ) -> u32;
+    fn failsafe_inside(
+        fence: *const u8,
+        fence_len: usize,
+        points: *const u8,
+        points_len: usize,
+        output: *mut u8,
+        output_len: usize,
+    ) -> u32;
     fn failsafe_fresh(state: *mut u8, state_len: usize) -> u32;
 }
 
@@ -83,4 +91,18 @@ pub fn step_side(
 pub fn fresh(state: &mut [u8]) -> u32 {
     // SAFETY: a slice that is alive.
     unsafe { failsafe_fresh(state.as_mut_ptr(), state.len()) }
+}
+
+pub fn inside(fence: &[u8], points: &[u8], output: &mut [u8]) -> u32 {
+    // SAFETY: three slices that are alive and do not overlap.
+    unsafe {
+        failsafe_inside(
+            fence.as_ptr(),
+            fence.len(),
+            points.as_ptr(),
+            points.len(),
+            output.as_mut_ptr(),
+            output.len(),
+        )
+    }
 }

@@ -98,3 +98,16 @@ extern "C" fn failsafe_fresh(state: *mut u8, state_len: usize) -> u32 {
     }
     number
 }
+
+/// Only so that the drivers link: none of them calls it here.
+#[unsafe(no_mangle)]
+extern "C" fn failsafe_inside(
+    _fence: *const u8,
+    _fence_len: usize,
+    _points: *const u8,
+    _points_len: usize,
+    _output: *mut u8,
+    _output_len: usize,
+) -> u32 {
+    unimplemented!()
+}
