@@ -69,6 +69,7 @@
  *             step changes more than twice, as of a star (kind 2 takes one)
  *   20 to 28  the configuration: home outside the fence, return altitude outside it, not finite, speed not
  *             positive, negative power, cell count, capacity, order of thresholds, duration out of range
+ *   38        the two radios' now_ms differ (failsafe_merge)
  *
  * The first refusal in this order is answered: configuration frame, fence frame, fence rules, configuration
  * rules, state, telemetry, output; within a frame 1, a length under 2, 2, 3, 4.
@@ -157,6 +158,20 @@ uint32_t failsafe_trial(uint8_t *generator, size_t generator_len, uint8_t *outpu
 #define FAILSAFE_WHOLE_ENERGY_BYTES 72
 uint32_t failsafe_whole_energy(const uint8_t *input, size_t input_len,
                                uint8_t *output, size_t output_len);
+
+/* The telemetry frames of two radios for one step, merged into the first 106 bytes of output; later bytes stay.
+ * Hand that frame to failsafe_step. Of each reading that may be absent (position, gps, voltage_v, percent,
+ * remaining_wh, gcs_heartbeat_ms, armed, landed, rc_ok, ekf_ok) one radio's is taken whole: one that is present
+ * before one that is absent; one within the bounds that a step sets for it (remaining_wh by the configuration's
+ * capacity) before one that the step would drop; one with an age before one whose stamp lies ahead; the younger;
+ * the first radio's. now_ms has to be the same in both. A NaN is written as 7FC00000.
+ * Refusals, in this order: those of configuration and fence as in a step, those of the first frame, those of
+ * the second, 38 where the two now_ms differ, 5 where output has under 106 bytes. No buffer has changed then. */
+uint32_t failsafe_merge(const uint8_t *config, size_t config_len,
+                        const uint8_t *fence, size_t fence_len,
+                        const uint8_t *first, size_t first_len,
+                        const uint8_t *second, size_t second_len,
+                        uint8_t *output, size_t output_len);
 
 #ifdef __cplusplus
 }

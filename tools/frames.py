@@ -20,6 +20,9 @@
      power_climb_mw, power_cruise_mw, power_descent_mw   from 0 to 10000000
      wind_thousandths   from 0 to 10000
      speed_climb_mm_s, speed_cruise_mm_s, speed_descent_mm_s   from 1 to 100000
+  frames.py merge FIRST SECOND [FILE]   merges the telemetry of two radios, the n-th of each into one, under the
+                                        first's configuration and fence, as `failsafe_merge` does (FIRST, SECOND:
+                                        flights or their frames; FILE: where to; default: standard output)
 
 A flight is an object with these members, each of which may be left out:
   "config"     fields of Config that differ from the defaults, as {"recovery_hold_ms": 6000}
@@ -59,6 +62,7 @@ REFUSALS = {
     20: "HomeOutsideFence", 21: "RtlAltOutsideFence", 22: "NonFiniteParam", 23: "NonPositiveSpeed", 24: "NegativePower",
     25: "BadCellCount", 26: "BadCapacity", 27: "BadThresholdOrder", 28: "DurationOutOfRange",
     33: "NotOnceRound",
+    38: "the two radios' clock readings differ",
 }
 # Config in declared order: its name, its type (u8, f32, flag or u32), its default.
 CONFIG_FIELDS = [
@@ -602,6 +606,97 @@ def draw_fence(body, points=()):
     return "\n".join(lines + ["</svg>", ""])
 
 
+# ---- merging
+
+# The readings of a telemetry body: name, place, bytes with the flag, places of floats within it. A stamp follows the flag.
+READINGS = [("position", 4, 29, (5, 9, 13, 17, 21, 25)), ("gps", 33, 13, (9,)), ("voltage_v", 46, 9, (5,)), ("percent", 55, 9, (5,)),
+            ("remaining_wh", 64, 9, (5,)), ("heartbeat", 73, 5, ()), ("armed", 78, 6, ()), ("landed", 84, 6, ()),
+            ("rc_ok", 90, 6, ()), ("ekf_ok", 96, 6, ())]
+
+
+def rounded(x):
+    """The 32-bit float nearest to a result of one operation on such floats."""
+    try:
+        return struct.unpack("<f", struct.pack("<f", x))[0]
+    except OverflowError:
+        return math.copysign(math.inf, x)
+
+
+def kept(name, floats, present_hdop, capacity):
+    """Whether `validate_telemetry` keeps a present reading with these floats."""
+    if name == "position":
+        n, e, d, *velocity = floats
+        if not all(map(math.isfinite, floats)) or abs(n) > 10000 or abs(e) > 10000 or -d < -100 or -d > 2000:
+            return False
+        squares = [rounded(v * v) for v in velocity]
+        return rounded(math.sqrt(rounded(rounded(squares[0] + squares[1]) + squares[2]))) <= 100
+    if name == "gps":
+        return not present_hdop or 0 <= floats[0] <= 100
+    if name in ("voltage_v", "percent"):
+        return 0 <= floats[0] <= 100
+    if name == "remaining_wh":
+        return math.isfinite(floats[0]) and 0 <= floats[0] <= rounded(capacity * rounded(1.1))
+    return True
+
+
+def standing(reading, now, capacity):
+    """What the rule looks at, least for what wins: absent, dropped, without an age, the age."""
+    name, bytes_, places = reading
+    if bytes_[0] == 0:
+        return (1, 0, 0, 0)
+    floats = [struct.unpack_from("<f", bytes_, at)[0] for at in places]
+    age = (now - struct.unpack_from("<I", bytes_, 1)[0]) & 0xFFFFFFFF
+    ageless = age >= 1 << 31
+    drops = not kept(name, floats, name == "gps" and bytes_[8] == 1, capacity)
+    return (0, int(drops), int(ageless), 0 if ageless else age)
+
+
+def merge_bodies(first, second, capacity):
+    now = struct.unpack_from("<I", first)[0]
+    merged = bytearray(first[:4])
+    for name, at, width, places in READINGS:
+        two = [(name, body[at:at + width], places) for body in (first, second)]
+        taken = bytearray(min(two, key=lambda reading: standing(reading, now, capacity))[1])
+        for place in places:
+            if math.isnan(struct.unpack_from("<f", taken, place)[0]):
+                struct.pack_into("<I", taken, place, 0x7FC00000)
+        merged += taken
+    return bytes(merged)
+
+
+def telemetry_of(path):
+    """The telemetry bodies of a flight or its frames, each as `show` takes it; and the frames before them."""
+    before, bodies = [], []
+    for at, kind, bytes_ in frames_of(path):
+        if kind != TELEMETRY:
+            before.append((kind, bytes_))
+            continue
+        body = Body(kind, bytes_)
+        try:
+            show_telemetry(body)
+            body.end()
+        except Bad as bad:
+            raise Bad(f"{path}: byte {at}: {bad}") from None
+        bodies.append(bytes_)
+    return before, bodies
+
+
+def merge_flights(first, second):
+    before, a = telemetry_of(first)
+    b = telemetry_of(second)[1]
+    if len(before) != 2 or len(before[0][1]) != 242:
+        raise Bad(f"{first}: a configuration and a fence are wanted before the telemetry")
+    if len(a) != len(b):
+        raise Bad(f"{first} has {len(a)} telemetries and {second} has {len(b)}")
+    capacity = struct.unpack_from("<f", before[0][1], 1)[0]
+    frames = [frame(kind, body) for kind, body in before]
+    for k, (x, y) in enumerate(zip(a, b)):
+        if x[:4] != y[:4]:
+            raise Bad(f"telemetry[{k}].now_ms: the two radios' differ (refusal 38)")
+        frames.append(frame(TELEMETRY, merge_bodies(x, y, capacity)))
+    return b"".join(frames)
+
+
 # ---- the command
 
 
@@ -726,6 +821,10 @@ def map_command(words):
     write_bytes(draw(words[0], [(n, e, answers[2 * k]) for k, (n, e) in enumerate(points)]), words[3:])
 
 
+def merge_command(words):
+    write_bytes(merge_flights(words[0], words[1]), words[2:])
+
+
 def show_command(words):
     times, corners = [], []
     if "--input" in words:
@@ -749,6 +848,8 @@ def main(words):
         command = show_command
     elif words[:1] == ["energy"] and len(words) > 1:
         command = energy_command
+    elif words[:1] == ["merge"] and len(words) in (3, 4):
+        command = merge_command
     else:
         print(__doc__, file=sys.stderr)
         return 2

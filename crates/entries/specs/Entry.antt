@@ -63,6 +63,11 @@ afterFlight withSide f state telemetry output = cond (eqb (f .refused) 0) (after
 unfoldable pub stepAny : Bool → List ℕ → List ℕ → List ℕ → List ℕ → List ℕ → StepCall
 stepAny withSide config fence state telemetry output = afterFlight withSide (readFlight config fence) state telemetry output
 
+-- the same, or with `checking` configuration and fence alone: the first refusal, and nothing is written
+unfoldable pub stepOrCheck : Bool → Bool → List ℕ → List ℕ → List ℕ → List ℕ → List ℕ → StepCall
+stepOrCheck checking withSide config fence state telemetry output =
+    cond checking (declined (readFlight config fence .refused) state output) (stepAny withSide config fence state telemetry output)
+
 pub record FreshCall : Type 0 where
   pub number : ℕ
   pub state : List ℕ

@@ -3,10 +3,10 @@ ghost use mathlib.Core.Path.{_≡_};
 ghost use mathlib.Core.List.{_++_};
 ghost use Prim.Native.Nat.{_≤_};
 ghost use lib.ListN.{length, drop};
-ghost use Rattle.flight.specs.Flight.{stepFlight};
+ghost use Rattle.flight.specs.Flight.{readFlight, stepFlight};
 ghost use Rattle.frame_state.specs.StateFrame.{readState};
 ghost use Rattle.frame_telemetry.specs.TelemetryFrame.{readTelemetry};
-ghost use Rattle.entries.specs.Entry.{outputFrame, outputSize, written, afterTelemetry, afterState, stepAny, freshCall};
+ghost use Rattle.entries.specs.Entry.{outputFrame, outputSize, written, afterTelemetry, afterState, stepAny, stepOrCheck, freshCall};
 use flight::Flight;
 use frame_state::StateRead;
 use frame_telemetry::TelemetryRead;
@@ -94,6 +94,31 @@ fn step_state(
     }
 }
 
+// One step, or with `checking` the refusal of configuration and fence alone. Both are in one function, so that `read_flight` has one
+// caller and the compiler puts it into the step.
+fn step_or_check(
+    checking: bool,
+    with_side: bool,
+    config: &[u8],
+    fence: &[u8],
+    state: &mut [u8],
+    telemetry: &[u8],
+    output: &mut [u8],
+) -> u32
+    ensures { λ r. ⌜ r ≡ stepOrCheck checking «with_side» (now (config .entry)) (now (fence .entry)) (now (state .entry)) (now (telemetry .entry)) (now (output .entry)) .number ⌝ }
+    ensures { λ _. ⌜ now (state .exit) ≡ stepOrCheck checking «with_side» (now (config .entry)) (now (fence .entry)) (now (state .entry)) (now (telemetry .entry)) (now (output .entry)) .state ⌝ }
+    ensures { λ _. ⌜ now (output .exit) ≡ stepOrCheck checking «with_side» (now (config .entry)) (now (fence .entry)) (now (state .entry)) (now (telemetry .entry)) (now (output .entry)) .output ⌝ }
+{
+    let flight = flight::read_flight(config, fence);
+    if flight.refused != 0 {
+        return flight.refused as u32;
+    }
+    if checking {
+        return 0;
+    }
+    step_state(with_side, flight, state, telemetry, output)
+}
+
 // One step: `with_side` is whether kind 6 is written, and not kind 4.
 pub fn step_any(
     with_side: bool,
@@ -107,11 +132,16 @@ pub fn step_any(
     ensures { λ _. ⌜ now (state .exit) ≡ stepAny «with_side» (now (config .entry)) (now (fence .entry)) (now (state .entry)) (now (telemetry .entry)) (now (output .entry)) .state ⌝ }
     ensures { λ _. ⌜ now (output .exit) ≡ stepAny «with_side» (now (config .entry)) (now (fence .entry)) (now (state .entry)) (now (telemetry .entry)) (now (output .entry)) .output ⌝ }
 {
-    let flight = flight::read_flight(config, fence);
-    if flight.refused != 0 {
-        return flight.refused as u32;
-    }
-    step_state(with_side, flight, state, telemetry, output)
+    step_or_check(false, with_side, config, fence, state, telemetry, output)
+}
+
+// The first refusal of configuration and fence, as a step gives it; 0 for none.
+pub fn check(config: &[u8], fence: &[u8]) -> u32
+    ensures { λ r. ⌜ r ≡ readFlight (now (config .entry)) (now (fence .entry)) .refused ⌝ }
+{
+    let mut state = [0u8; 1];
+    let mut output = [0u8; 1];
+    step_or_check(true, false, config, fence, &mut state, fence, &mut output)
 }
 
 // A fresh state into the first 186 bytes; later bytes stay.

@@ -5,6 +5,7 @@ ghost use Rattle.entries.specs.Entry.{stepAny, freshCall};
 ghost use Rattle.inside.specs.Call.{insideCall};
 ghost use Rattle.trial.specs.Call.{trialCall};
 ghost use Rattle.whole_energy.specs.Call.{energyCall};
+ghost use Rattle.merge_frames.specs.Call.{mergeCall};
 
 #[no_mangle]
 pub extern "C" fn failsafe_step(
@@ -69,4 +70,20 @@ pub extern "C" fn failsafe_inside(fence: &[u8], points: &[u8], output: &mut [u8]
     ensures { λ _. ⌜ now (output .exit) ≡ insideCall (now (fence .entry)) (now (points .entry)) (now (output .entry)) .output ⌝ }
 {
     inside::inside_call(fence, points, output)
+}
+
+// Document 02, L10: the kind 3 frames of two radios merged into one.
+#[no_mangle]
+pub extern "C" fn failsafe_merge(
+    config: &[u8],
+    fence: &[u8],
+    first: &[u8],
+    second: &[u8],
+    output: &mut [u8],
+) -> u32
+    ensures { λ r. ⌜ r ≡ mergeCall (now (config .entry)) (now (fence .entry)) (now (first .entry)) (now (second .entry)) (now (output .entry)) .number ⌝ }
+    ensures { λ _. ⌜ now (output .exit) ≡ mergeCall (now (config .entry)) (now (fence .entry)) (now (first .entry)) (now (second .entry)) (now (output .entry)) .output ⌝ }
+{
+    let refused = entries::check(config, fence);
+    merge_frames::merge_checked(refused, config, first, second, output)
 }

@@ -102,7 +102,7 @@ fn validate_remaining(r: f32, cap: f32) -> bool
     finite & (0.0 <= r) & (r <= cap * 1.1)
 }
 
-fn position_ok(p: OptionPositionSample) -> bool
+pub fn position_ok(p: OptionPositionSample) -> bool
     ensures { λ r. ⌜ r ≡ positionOk p ⌝ }
 {
     match p {
@@ -111,7 +111,7 @@ fn position_ok(p: OptionPositionSample) -> bool
     }
 }
 
-fn gps_ok(g: OptionGpsSample) -> bool
+pub fn gps_ok(g: OptionGpsSample) -> bool
     ensures { λ r. ⌜ r ≡ gpsOk g ⌝ }
 {
     match g {
@@ -120,7 +120,7 @@ fn gps_ok(g: OptionGpsSample) -> bool
     }
 }
 
-fn percent_ok(p: OptionStampedF32) -> bool
+pub fn percent_ok(p: OptionStampedF32) -> bool
     ensures { λ r. ⌜ r ≡ percentOk p ⌝ }
 {
     match p {
@@ -129,7 +129,7 @@ fn percent_ok(p: OptionStampedF32) -> bool
     }
 }
 
-fn remaining_ok(p: OptionStampedF32, cap: f32) -> bool
+pub fn remaining_ok(p: OptionStampedF32, cap: f32) -> bool
     ensures { λ r. ⌜ r ≡ remainingOk p cap ⌝ }
 {
     match p {

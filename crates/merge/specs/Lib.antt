@@ -1,0 +1,4 @@
+-- The definitions that the contracts of `merge` cite.
+pub mod Choice
+pub mod Merge
+pub mod Claims

@@ -1,0 +1,3 @@
+-- The definitions that the contracts of `merge_frames` cite.
+pub mod Call
+pub mod Claims
