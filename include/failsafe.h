@@ -159,6 +159,14 @@ uint32_t failsafe_trial(uint8_t *generator, size_t generator_len, uint8_t *outpu
 uint32_t failsafe_whole_energy(const uint8_t *input, size_t input_len,
                                uint8_t *output, size_t output_len);
 
+/* Writes an accepted fence of kind 8 in its one form, into the first 13 + 8 * corners bytes of output; later bytes
+ * stay. It starts at the corner with least north, then least east, and goes first to the lesser of its two
+ * neighbours; every -0 is written as 0. Two fences with the same altitudes and ring of corners write the same bytes.
+ * Refusals: the fence's as in a step, with a kind 8 due (a kind 2 is 2); then 39 where the fence so written would
+ * itself be declined, since rounding differs by corner; then 5. On a refusal nothing is written. */
+uint32_t failsafe_spell_fence(const uint8_t *fence, size_t fence_len,
+                              uint8_t *output, size_t output_len);
+
 /* The telemetry frames of two radios for one step, merged into the first 106 bytes of output; later bytes stay.
  * Hand that frame to failsafe_step. Of each reading that may be absent (position, gps, voltage_v, percent,
  * remaining_wh, gcs_heartbeat_ms, armed, landed, rc_ok, ekf_ok) one radio's is taken whole: one that is present

@@ -61,8 +61,7 @@ REFUSALS = {
     14: "DuplicateVertex", 15: "CollinearEdge", 16: "NotConvex", 17: "AreaTooSmall", 18: "BadAltitudes",
     20: "HomeOutsideFence", 21: "RtlAltOutsideFence", 22: "NonFiniteParam", 23: "NonPositiveSpeed", 24: "NegativePower",
     25: "BadCellCount", 26: "BadCapacity", 27: "BadThresholdOrder", 28: "DurationOutOfRange",
-    33: "NotOnceRound",
-    38: "the two radios' clock readings differ",
+    33: "NotOnceRound", 38: "the two radios' clock readings differ", 39: "the fence in its one form would be declined",
 }
 # Config in declared order: its name, its type (u8, f32, flag or u32), its default.
 CONFIG_FIELDS = [

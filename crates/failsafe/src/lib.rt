@@ -3,6 +3,7 @@ ghost use mathlib.Core.Bool.{true, false};
 ghost use mathlib.Core.Path.{_≡_};
 ghost use Rattle.entries.specs.Entry.{stepAny, freshCall};
 ghost use Rattle.inside.specs.Call.{insideCall};
+ghost use Rattle.spelling.specs.Spell.{spellNumber, spellOutput};
 ghost use Rattle.trial.specs.Call.{trialCall};
 ghost use Rattle.whole_energy.specs.Call.{energyCall};
 ghost use Rattle.merge_frames.specs.Call.{mergeCall};
@@ -86,4 +87,14 @@ pub extern "C" fn failsafe_merge(
 {
     let refused = entries::check(config, fence);
     merge_frames::merge_checked(refused, config, first, second, output)
+}
+
+// Document 02, L12: a fence of kind 8 in its one form.
+#[no_mangle]
+pub extern "C" fn failsafe_spell_fence(fence: &[u8], output: &mut [u8]) -> u32
+    ensures { λ r. ⌜ r ≡ spellNumber (now (fence .entry)) (now (output .entry)) ⌝ }
+    ensures { λ _. ⌜ now (output .exit) ≡ spellOutput (now (fence .entry)) (now (output .entry)) ⌝ }
+{
+    let n = spelling::spell_fence(fence, output);
+    n as u32
 }

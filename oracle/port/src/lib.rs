@@ -38,6 +38,13 @@ unsafe extern "C" {
         output_len: usize,
     ) -> u32;
     fn failsafe_fresh(state: *mut u8, state_len: usize) -> u32;
+    #[cfg(not(feature = "standin"))]
+    fn failsafe_spell_fence(
+        fence: *const u8,
+        fence_len: usize,
+        output: *mut u8,
+        output_len: usize,
+    ) -> u32;
 }
 
 pub fn step(
@@ -101,6 +108,19 @@ pub fn inside(fence: &[u8], points: &[u8], output: &mut [u8]) -> u32 {
             fence.len(),
             points.as_ptr(),
             points.len(),
+            output.as_mut_ptr(),
+            output.len(),
+        )
+    }
+}
+
+#[cfg(not(feature = "standin"))]
+pub fn spell_fence(fence: &[u8], output: &mut [u8]) -> u32 {
+    // SAFETY: two slices that are alive and do not overlap.
+    unsafe {
+        failsafe_spell_fence(
+            fence.as_ptr(),
+            fence.len(),
             output.as_mut_ptr(),
             output.len(),
         )

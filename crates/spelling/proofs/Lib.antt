@@ -1,0 +1,2 @@
+-- The theorems on one spelling.
+pub mod Claims
