@@ -10,7 +10,9 @@ use Rattle.corners.specs.Ring.{fold, any, tails}
 use Rattle.float32.specs.Libm.{isFinite}
 use Rattle.corners.specs.Acceptance.{samePoint, recurs}
 use Rattle.types.specs.declared.Point2.{Point2}
-use Rattle.rings.proofs.Floats.{Number, lt-asym, lt-not-eq, eq-sym, eq-not-lt, total, lt-trans, lt-eq, eq-lt, eq-trans}
+use Rattle.float_order.specs.Number.{Number}
+use Rattle.float_order.proofs.Order.{lt-asym, eq-sym, total, lt-trans, eq-lt}
+use Rattle.rings.proofs.Floats.{lt-not-eq, eq-not-lt, lt-eq, eq-trans}
 
 -- ---- tests
 or-cases : (x y : Bool) → x || y ≡ true → (x ≡ true) ⊎ (y ≡ true)

@@ -11,7 +11,9 @@ use Rattle.float32.specs.Binary32.{zeroF}
 use Rattle.corners.specs.Acceptance.{samePoint}
 use Rattle.rings.specs.Claim.{FenceWrittenIsRead, OneFence, FenceStays, FenceTakesForm}
 use Rattle.types.specs.declared.Point2.{Point2}
-use Rattle.rings.proofs.Floats.{Number, lt-asym, eq-sym, total, lt-eq, eq-lt, eq-trans}
+use Rattle.float_order.specs.Number.{Number}
+use Rattle.float_order.proofs.Order.{lt-asym, eq-sym, total, eq-lt}
+use Rattle.rings.proofs.Floats.{lt-eq, eq-trans}
 use Rattle.rings.proofs.Corner.{decide, and-intro, before-cases, north, east, order, Finite, finite-number, settled}
 use Rattle.rings.proofs.Unique.{plain-unique}
 use Rattle.rings.proofs.Spelling.{all-ring, written-is-read, one-ring, one-spelling, takes-form, stays}
