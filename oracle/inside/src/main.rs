@@ -6,7 +6,7 @@
 use failsafe_core::{Geofence, Point2};
 use flights::{Setup, break_fence, fence_frame, once_round};
 use frames::{fence_core, read_fence};
-use random::{Random, circle, nudged};
+use random::{Random, nudged};
 use std::time::Instant;
 
 /// The Rust's own, which it does not hand out.
@@ -165,45 +165,56 @@ fn least(points: usize, mut round: impl FnMut()) -> f64 {
     times.fold(f64::INFINITY, f64::min)
 }
 
+/// A map of 1,000,000 points by rows, over a square of twice the area of a regular fence: half of them are inside.
+fn map(corners: usize) -> (Vec<u8>, Vec<Point2>) {
+    let turn = std::f64::consts::TAU / corners as f64;
+    let ring: Vec<(f32, f32)> = (0..corners)
+        .map(|k| (0.3 + turn * k as f64).sin_cos())
+        .map(|(e, n)| (1000.0 * n as f32, 1000.0 * e as f32))
+        .collect();
+    let half = 1000.0 * (corners as f64 * turn.sin()).sqrt() / 2.0;
+    let at = |k: usize| (half * ((2 * k + 1) as f64 / 1000.0 - 1.0)) as f32;
+    let points = (0..1_000_000)
+        .map(|k| Point2 {
+            n: at(k / 1000),
+            e: at(k % 1000),
+        })
+        .collect();
+    (fence_frame(5.0, 120.0, &ring), points)
+}
+
+fn time_of(frame: &[u8], points: &[Point2], order: &str) {
+    let fence = geofence(frame).expect("a regular fence is accepted");
+    let given = bytes(points);
+    let mut output = vec![0; 2 * points.len()];
+    let port = least(points.len(), || {
+        assert_eq!(port::inside(frame, &given, &mut output), 0)
+    });
+    let mut yes = 0;
+    let rust = least(points.len(), || {
+        yes = points.iter().filter(|p| fence.poly.contains(**p)).count()
+    });
+    assert_eq!(
+        output.iter().step_by(2).map(|b| *b as usize).sum::<usize>(),
+        yes
+    );
+    println!(
+        "a map of {} points {order}, {yes} inside, {} corners: {port:.1} ns a point, the Rust's contains {rust:.1}, ratio {:.2}",
+        points.len(),
+        frame[4],
+        port / rust
+    );
+}
+
 fn time() {
     let mut random = Random::new(1);
     for corners in [4, 16] {
-        let frame = fence_frame(
-            5.0,
-            120.0,
-            &circle(&mut random, corners, 1000.0, (0.0, 0.0)),
-        );
-        let fence = geofence(&frame).expect("a circle is accepted");
-        let (mut points, mut inside) = (Vec::new(), 0);
-        while points.len() < 1_000_000 {
-            let p = Point2 {
-                n: random.between(-1100.0, 1100.0),
-                e: random.between(-1100.0, 1100.0),
-            };
-            let yes = fence.poly.contains(p);
-            if 2 * inside < points.len() || !yes {
-                inside += yes as usize;
-                points.push(p);
-            }
+        let (frame, mut points) = map(corners);
+        time_of(&frame, &points, "in rows");
+        for k in (1..points.len()).rev() {
+            points.swap(k, random.below(k + 1));
         }
-        let given = bytes(&points);
-        let mut output = vec![0; 2 * points.len()];
-        let port = least(points.len(), || {
-            assert_eq!(port::inside(&frame, &given, &mut output), 0)
-        });
-        let mut yes = 0;
-        let rust = least(points.len(), || {
-            yes = points.iter().filter(|p| fence.poly.contains(**p)).count()
-        });
-        assert_eq!(
-            output.iter().step_by(2).map(|b| *b as usize).sum::<usize>(),
-            yes
-        );
-        println!(
-            "a map of {} points, {yes} inside, {corners} corners: {port:.1} ns a point, the Rust's contains {rust:.1}, ratio {:.2}",
-            points.len(),
-            port / rust
-        );
+        time_of(&frame, &points, "in no order");
     }
 }
 
