@@ -1,5 +1,5 @@
 #!/usr/bin/env bash
-# Times the port beside the Rust (docs/RUST.md says how to read it): a map of points, the step entry, the frames, then `decide` on a stream of
+# Times the port beside the Rust (docs/RUST.md says how to read it): a map of points, the step entries, steps beside areas, the frames, then `decide` on a stream of
 # 200,000 telemetry frames. The Rust is built twice: as cargo's release profile does, and with everything in one unit.
 # Needs the Rust's source. Nothing here passes or fails.
 set -eu

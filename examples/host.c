@@ -1,5 +1,5 @@
 /* A host that flies a short flight: takes off, loses its ground station's heartbeat, returns, hears it again, and
- * is disarmed. It prints one line for each step. */
+ * is disarmed; then a crane goes up and comes down. It prints one line for each step. */
 #include <stdio.h>
 #include <string.h>
 
@@ -122,6 +122,23 @@ static void fence_frame(uint8_t *bytes)
     }
 }
 
+/* A crane's yard, 60 m by 60 m, from 60 m north on. */
+static void area_frame(uint8_t *bytes, uint8_t number)
+{
+    static const float corners[4][2] = {{60, -30}, {60, 30}, {120, 30}, {120, -30}};
+    struct writer w = {bytes, 0};
+    put_head(&w, 7, FAILSAFE_AREA_BYTES(4));
+    put_u8(&w, number);
+    put_u8(&w, 4);
+    for (int i = 0; i < 4; i++) {
+        put_f32(&w, corners[i][0]);
+        put_f32(&w, corners[i][1]);
+    }
+}
+
+/* The bytes of a frame. */
+static size_t frame_bytes(const uint8_t *frame) { return 2u + frame[0] + 256u * frame[1]; }
+
 /* All is well 50 m above a point so many metres north, but for the heartbeat and the armed reading as told. */
 static void telemetry_frame(uint8_t *bytes, uint32_t now, float north, uint32_t heartbeat, int armed)
 {
@@ -166,9 +183,23 @@ static void telemetry_frame(uint8_t *bytes, uint32_t now, float north, uint32_t 
     }
 }
 
+static const char *const actions[] = {"Nominal", "Warn", "Hold", "ReturnToLaunch", "Land"};
+
+/* A step 55 m north of home, beside the areas of a frame. */
+static uint32_t step_beside(const uint8_t *config, const uint8_t *fence, uint8_t *state, uint32_t now, const uint8_t *areas)
+{
+    uint8_t telemetry[FAILSAFE_TELEMETRY_BYTES], shown[FAILSAFE_SIDE_BYTES];
+    telemetry_frame(telemetry, now, 55, now, 1);
+    uint32_t refused = failsafe_step_areas(config, FAILSAFE_CONFIG_BYTES, fence, FAILSAFE_FENCE_BYTES(4), state, FAILSAFE_STATE_BYTES,
+                                           telemetry, sizeof telemetry, shown, sizeof shown, areas, frame_bytes(areas));
+    if (refused == 0)
+        printf("%6u %s, %s\n", (unsigned)now, actions[shown[FAILSAFE_DECISION_ACTION]],
+               shown[FAILSAFE_DECISION_SIDE] == FAILSAFE_SIDE_AREA ? "an area is nearest" : "the fence is nearest");
+    return refused;
+}
+
 int main(void)
 {
-    static const char *const actions[] = {"Nominal", "Warn", "Hold", "ReturnToLaunch", "Land"};
     uint8_t config[FAILSAFE_CONFIG_BYTES], fence[FAILSAFE_FENCE_BYTES(4)];
     uint8_t state[FAILSAFE_STATE_BYTES], telemetry[FAILSAFE_TELEMETRY_BYTES], output[FAILSAFE_DECISION_BYTES];
     uint8_t shown[FAILSAFE_SIDE_BYTES];
@@ -210,5 +241,20 @@ int main(void)
         return 1;
     }
     printf("%6u %s, nearest side %u\n", 41000u, actions[shown[FAILSAFE_DECISION_ACTION]], shown[FAILSAFE_DECISION_SIDE]);
+
+    /* a crane goes up, and comes down again: the host keeps the areas' frame */
+    uint8_t area[FAILSAFE_AREA_BYTES(4)], areas[FAILSAFE_AREAS_MOST], fewer[FAILSAFE_AREAS_MOST];
+    area_frame(area, 7);
+    refused = failsafe_add_area(NULL, 0, area, sizeof area, areas, sizeof areas);
+    if (refused == 0)
+        refused = step_beside(config, fence, state, 42000, areas);
+    if (refused == 0)
+        refused = failsafe_remove_area(areas, frame_bytes(areas), 7, fewer, sizeof fewer);
+    if (refused == 0)
+        refused = step_beside(config, fence, state, 43000, fewer);
+    if (refused != 0) {
+        printf("areas refused: %u\n", (unsigned)refused);
+        return 1;
+    }
     return 0;
 }

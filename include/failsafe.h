@@ -11,8 +11,11 @@
  *   fence          2, 8   13 + 8 * corners    corner count, min altitude, max altitude, corners north, east
  *   telemetry      3      106                 Telemetry
  *   output         4      95 or more          Decision
- *                  6      96 or more          Decision with the side of the fence: failsafe_step_side
+ *                  6      96 or more          Decision with the side of the fence: failsafe_step_side, failsafe_step_areas
  *   state          5      186                 the supervisor's state
+ *   area           7      6 + 8 * corners     a keep-out area: number, corner count, corners north, east
+ *   areas          13     5 to 1045, or none  count, then the bodies (number, corner count, corners) of up to eight areas, in
+ *                                             order of number
  *
  * A bool is a byte 0 or 1, an enum a byte in declared order from 0, an Option a byte 0 or 1 and then its
  * value, all zero bytes where absent. Floats are IEEE 754 binary32; written NaNs are 7FC00000 (hexadecimal). A
@@ -49,7 +52,8 @@
  * Kind 6 is kind 4 with one byte put in: byte 94 is the number of the fence's side that gave the distance, and
  * disarm_eligible stands at 95. Sides count from 0 in the order in which the fence is held: counter-clockwise, so corners
  * that are sent clockwise are taken from the last to the first. Side k runs from held corner k to the next. Of
- * sides at the same distance it is the lowest number; 255 where there is no distance, or none below infinity.
+ * sides at the same distance it is the lowest number; 254 where an area is nearer than the fence (failsafe_step_areas); 255
+ * where there is no distance, or none below infinity.
  *
  * Config is packed by tools/frames.py, and written field by field in examples/host.c. The state's bytes are the
  * library's own: a host keeps them and hands them back.
@@ -62,20 +66,34 @@
  *   3         a length under 2, or not the kind's, or bytes left over
  *   4         a flag or enum byte out of range; an absent value not zero; in state also a link stage above 3,
  *             a row of faults above 2, a number of the stored position or velocity that is not finite
- *   5         output under 95 bytes (failsafe_step_side: under 96; failsafe_fresh: state under 186)
+ *   5         output under 95 bytes (failsafe_step_side, failsafe_step_areas: under 96; failsafe_fresh: state under 186;
+ *             failsafe_add_area, failsafe_remove_area: output under the frame to be written)
  *   10 to 18  the fence: too few corners, too many, not finite, out of envelope, duplicate, collinear, not
  *             convex, area too small, bad altitudes
  *   33        the fence, of kind 8 alone, after 16 and before 17: going round the sides, the sign of the north
- *             step changes more than twice, as of a star (kind 2 takes one)
+ *             step changes more than twice, as of a star (kind 2 takes one); an area, beside either kind
  *   20 to 28  the configuration: home outside the fence, return altitude outside it, not finite, speed not
  *             positive, negative power, cell count, capacity, order of thresholds, duration out of range
+ *   30        a ninth area
+ *   31        an area's number is 0, is held already, is not above the one before it in a frame of kind 13, or is to be
+ *             removed and is not held
+ *   32        home, (0, 0), is inside an area; on its side it is not
  *   38        the two radios' now_ms differ (failsafe_merge)
  *
  * The first refusal in this order is answered: configuration frame, fence frame, fence rules, configuration
- * rules, state, telemetry, output; within a frame 1, a length under 2, 2, 3, 4.
+ * rules, areas frame, areas one by one, state, telemetry, output; within a frame 1, a length under 2, 2, 3, 4. Of an area 10 to
+ * 16, 33, 17, then 31, 30, 32. A frame of kind 13 whose counts don't fit its length is 3 before any of its areas is looked at.
  *
  * No two buffers of a call may overlap, and nothing else may write to them during the call: the library
  * can't see either. A pointer may be null where its length is 0.
+ *
+ * Stack of a call on x86-64, the most that tests/stack measures on the sample flight beside eight areas, rounded up to a multiple of
+ * 64 (a build for another processor differs):
+ *   failsafe_step        2752 bytes
+ *   failsafe_step_side   2752 bytes
+ *   failsafe_step_areas  3328 bytes
+ *   failsafe_add_area    960 bytes
+ *   failsafe_remove_area 896 bytes
  */
 #ifndef FAILSAFE_H
 #define FAILSAFE_H
@@ -93,12 +111,15 @@ extern "C" {
 #define FAILSAFE_DECISION_BYTES 95
 #define FAILSAFE_SIDE_BYTES 96
 #define FAILSAFE_STATE_BYTES 186
+#define FAILSAFE_AREA_BYTES(corners) (6 + 8 * (corners))
+#define FAILSAFE_AREAS_MOST 1045 /* eight areas of 16 corners */
 
 /* Places in a Decision's frame. */
 #define FAILSAFE_DECISION_ACTION 4
 #define FAILSAFE_DECISION_REASON 5
 #define FAILSAFE_DECISION_REQUESTED 6
 #define FAILSAFE_DECISION_SIDE 94 /* in kind 6 alone */
+#define FAILSAFE_SIDE_AREA 254    /* there: an area is nearest */
 
 /* One step: the state is rewritten, and the Decision stands in the first 95 bytes of output; later bytes stay.
  * Configuration and fence come with every call and are checked each time. */
@@ -114,6 +135,30 @@ uint32_t failsafe_step_side(const uint8_t *config, size_t config_len,
                             uint8_t *state, size_t state_len,
                             const uint8_t *telemetry, size_t telemetry_len,
                             uint8_t *output, size_t output_len);
+
+/* The same step beside keep-out areas: `areas` is a frame of kind 13, or empty for no area. The distance in the Decision, and what the
+ * fence's warning and breach look at, is then the clearance: the smaller of the fence's distance and, for each area, minus its signed
+ * distance. Signed distances go to the lines of the sides, so past a corner clearance is less than the way to that corner. The side byte is
+ * the fence's where the fence's distance is no larger than the rest, else 254. Areas may change between any two steps, and a flight may mix the three entries. */
+uint32_t failsafe_step_areas(const uint8_t *config, size_t config_len,
+                             const uint8_t *fence, size_t fence_len,
+                             uint8_t *state, size_t state_len,
+                             const uint8_t *telemetry, size_t telemetry_len,
+                             uint8_t *output, size_t output_len,
+                             const uint8_t *areas, size_t areas_len);
+
+/* The areas with one more: `areas` (kind 13, or empty for none) and `area` (kind 7) make the frame of kind 13 in the front of output; later
+ * bytes stay. FAILSAFE_AREAS_MOST bytes are always enough; the frame's first two bytes plus 2 are its length. The corners stay as
+ * they were sent, bit for bit. Refusals: those of areas as in a step, those of the area's frame (1, 3, 2, 3), those of the area (its polygon,
+ * 31, 30, 32), then 5. On a refusal nothing is written, and a host goes on with the areas it has. */
+uint32_t failsafe_add_area(const uint8_t *areas, size_t areas_len,
+                           const uint8_t *area, size_t area_len,
+                           uint8_t *output, size_t output_len);
+
+/* The areas without the one of this number, whose place can be used again. Without the last one it is a frame of count 0, which is no
+ * area for a step. Refusals: those of areas as in a step, 31 where the number is not held, then 5. */
+uint32_t failsafe_remove_area(const uint8_t *areas, size_t areas_len, uint8_t number,
+                              uint8_t *output, size_t output_len);
 
 /* Which of a row of points are inside the fence, for a map. A point is 8 bytes: north and east, each a binary32 number, in metres from
  * home. For each point two bytes are written: 1 for inside (on a side too) or 0, and the number of sides that were read: the test

@@ -1,4 +1,4 @@
-# Sourced by the tests that need the Rust. `top` is the repository's folder.
+# Sourced by the tests that need the Rust. `top` is the repository's folder; a test sets `build`, the folder of what it makes.
 top=$(cd "$(dirname "${BASH_SOURCE[0]}")/.." && pwd)
 
 # Ends the test where STATUS says that something is not here, or went wrong; SAID is the file with the reason.
@@ -22,4 +22,29 @@ kept_list() { # PROGRAM REPLAY
     for part in stdin stdout; do
         cmp "$made/$part" "$top/crates/$2/$part" || exit 1
     done
+}
+
+# Proves and writes the static library, for the oracle to link.
+staticlib() {
+    if ! rt staticlib failsafe >"$build/staticlib.out" 2>&1; then
+        cat "$build/staticlib.out"
+        exit 1
+    fi
+    CUTHRANSI_STATICLIB=$top/target/staticlib
+    export CUTHRANSI_STATICLIB
+}
+
+# The oracle's PROGRAM sees each of these faults of the plain Rust entries, which are put in the port's place.
+sees_faults() { # PROGRAM FAULT ..
+    local program=$1 standin fault
+    shift
+    standin=$(oracle/run.sh --features standin --path "$program" 2>"$build/said")
+    need $? "$build/said"
+    for fault in "$@"; do
+        if CUTHRANSI_FAULT=$fault "$standin" 20000 >"$build/fault$fault" || ! grep -q '^differs' "$build/fault$fault"; then
+            echo "the driver did not see fault $fault of oracle/port/src/standin.rs"
+            exit 1
+        fi
+    done
+    echo "the driver sees $# faults that were put into the Rust's own entries"
 }

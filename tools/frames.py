@@ -1,14 +1,15 @@
 #!/usr/bin/env python3
 """Frames of the flight supervisor, as bytes and as text.
 
-  frames.py pack FLIGHT.json [FILE]     packs a flight's configuration, fence and telemetry into frames,
+  frames.py pack FLIGHT.json [FILE]     packs a flight's configuration, fence, areas and telemetry into frames,
                                         as `decide` reads them (FILE: where to; default: standard output)
   frames.py show [FILE] [--input FILE]  shows frames as text, a line for each (FILE: default standard input;
                                         --input: the frames or the flight that were stepped: the n-th Decision
                                         is then shown with the time of the n-th telemetry, and the side of a
                                         Decision of kind 6 with its two corners)
   frames.py draw INPUT [FILE]           draws the fence of a flight or of frames (INPUT: - for standard input) as SVG,
-                                        north up, with the number of each side, in the order in which the fence is held
+                                        north up, with the number of each side, in the order in which the fence is held,
+                                        and every area that is held at some time, with its number
   frames.py points POINTS.txt [FILE]    packs points, a line of north and east each, into 8 bytes each, for failsafe_inside
   frames.py map INPUT POINTS.txt ANSWERS [FILE]
                                         draws the fence with the points, those inside filled (ANSWERS: what
@@ -21,13 +22,16 @@
      wind_thousandths   from 0 to 10000
      speed_climb_mm_s, speed_cruise_mm_s, speed_descent_mm_s   from 1 to 100000
   frames.py merge FIRST SECOND [FILE]   merges the telemetry of two radios, the n-th of each into one, under the
-                                        first's configuration and fence, as `failsafe_merge` does (FIRST, SECOND:
+                                        first's configuration, fence and areas, as `failsafe_merge` does (FIRST, SECOND:
                                         flights or their frames; FILE: where to; default: standard output)
 
 A flight is an object with these members, each of which may be left out:
   "config"     fields of Config that differ from the defaults, as {"recovery_hold_ms": 6000}
   "fence"      {"kind": 2, "min_alt_m": 5, "max_alt_m": 120, "corners": [[north, east], ...]}; left out: the default
                fence. Kind 8 asks one rule more: going round the sides, the north steps change their sign twice
+  "areas"      a list of keep-out areas: {"number": 1, "corners": [[north, east], ...], "from_ms": 5000, "until_ms": 60000};
+               held at each reading of the clock from "from_ms" (left out: 0) to below "until_ms" (left out: always).
+               Where those held change, a frame of kind 13 with all of them stands before the telemetry
   "telemetry"  a list of readings; each has "now_ms", and what is left out of it is absent:
      "position"          {"pos": [n, e, d], "vel": [n, e, d]}
      "gps"               {"fix": "None" | "Fix2D" | "Fix3D", "sats": 14, "hdop": 0.9}
@@ -45,10 +49,11 @@ import math
 import struct
 import sys
 
-CONFIG, FENCE, TELEMETRY, DECISION, STATE, DECISION_SIDE, FENCE_ONCE_ROUND, REFUSAL = 1, 2, 3, 4, 5, 6, 8, 255
+CONFIG, FENCE, TELEMETRY, DECISION, STATE, DECISION_SIDE, AREA, FENCE_ONCE_ROUND, AREAS, REFUSAL = 1, 2, 3, 4, 5, 6, 7, 8, 13, 255
 FENCES = (FENCE, FENCE_ONCE_ROUND)
+AREA_SIDE, NO_SIDE = 254, 255
 KINDS = {CONFIG: "Config", FENCE: "Fence", FENCE_ONCE_ROUND: "Fence of kind 8", TELEMETRY: "Telemetry", DECISION: "Decision", STATE: "State",
-         DECISION_SIDE: "Decision with its side", REFUSAL: "Refusal"}
+         DECISION_SIDE: "Decision with its side", AREA: "Area", AREAS: "Areas", REFUSAL: "Refusal"}
 ACTIONS = ["Nominal", "Warn", "Hold", "ReturnToLaunch", "Land"]
 REASONS = ["None", "ClockFault", "InvalidInput", "StaleBattery", "GcsLinkLost", "RcLost", "GpsDegraded", "GpsLost",
            "EkfUnhealthy", "PositionInvalid", "FenceApproach", "FenceBreach", "AltitudeMax", "AltitudeMin", "BatteryWarn",
@@ -61,6 +66,7 @@ REFUSALS = {
     14: "DuplicateVertex", 15: "CollinearEdge", 16: "NotConvex", 17: "AreaTooSmall", 18: "BadAltitudes",
     20: "HomeOutsideFence", 21: "RtlAltOutsideFence", 22: "NonFiniteParam", 23: "NonPositiveSpeed", 24: "NegativePower",
     25: "BadCellCount", 26: "BadCapacity", 27: "BadThresholdOrder", 28: "DurationOutOfRange",
+    30: "a ninth area", 31: "the area's number is 0, held already, out of order or not held", 32: "home is inside the area",
     33: "NotOnceRound", 38: "the two radios' clock readings differ", 39: "the fence in its one form would be declined",
 }
 # Config in declared order: its name, its type (u8, f32, flag or u32), its default.
@@ -230,30 +236,66 @@ def fence_frame(value):
 
 
 def fence_body(value):
-    corners = value.get("corners", DEFAULT_CORNERS)
+    count, corners = pack_corners(value.get("corners", DEFAULT_CORNERS), "fence.corners", "a fence")
+    return count + pack_f32(value.get("min_alt_m", 5), "fence.min_alt_m") + pack_f32(value.get("max_alt_m", 120), "fence.max_alt_m") + corners
+
+
+def pack_corners(corners, where, whose):
+    """The count's byte, and the corners' bytes."""
     if not isinstance(corners, list) or len(corners) > 255:
-        raise Bad("fence.corners: a list of at most 255 corners is wanted (a fence has 3 to 16)")
-    body = bytes([len(corners)])
-    body += pack_f32(value.get("min_alt_m", 5), "fence.min_alt_m") + pack_f32(value.get("max_alt_m", 120), "fence.max_alt_m")
+        raise Bad(f"{where}: a list of at most 255 corners is wanted ({whose} has 3 to 16)")
+    packed = b""
     for k, corner in enumerate(corners):
-        where = f"fence.corners[{k}]"
         if not isinstance(corner, list) or len(corner) != 2:
-            raise Bad(f"{where}: two numbers [north, east] are wanted, not {json.dumps(corner)}")
-        body += pack_f32(corner[0], f"{where}[0]") + pack_f32(corner[1], f"{where}[1]")
-    return body
+            raise Bad(f"{where}[{k}]: two numbers [north, east] are wanted, not {json.dumps(corner)}")
+        packed += pack_f32(corner[0], f"{where}[{k}][0]") + pack_f32(corner[1], f"{where}[{k}][1]")
+    return bytes([len(corners)]), packed
+
+
+def area_of(value, where):
+    """An area: from when and until when it is held, and its body."""
+    value = members(value, where, ["number", "corners", "from_ms", "until_ms"])
+    since = u32(value.get("from_ms", 0), f"{where}.from_ms")
+    until = u32(value["until_ms"], f"{where}.until_ms") if "until_ms" in value else 1 << 32
+    if until <= since:
+        raise Bad(f"{where}.until_ms: {until} is not after from_ms, {since}")
+    return since, until, pack_u8(value.get("number"), f"{where}.number") + b"".join(pack_corners(value.get("corners"), f"{where}.corners", "an area"))
+
+
+def areas_frame(bodies):
+    """Kind 13, in order of number."""
+    if len(bodies) > 255:
+        raise Bad("areas: more than 255 are held at a time (8 are accepted)")
+    body = bytes([len(bodies)]) + b"".join(sorted(bodies, key=lambda body: body[0]))
+    if len(body) > 0xFFFF - 2:
+        raise Bad("areas: those held at a time have too many corners for a frame")
+    return frame(AREAS, body)
 
 
 def frame(kind, body):
     return struct.pack("<HH", 2 + len(body), kind) + body
 
 
+def list_of(flight, name, what):
+    values = flight.get(name, [])
+    if not isinstance(values, list):
+        raise Bad(f"{name}: a list of {what} is wanted")
+    return values
+
+
 def pack_flight(flight):
-    flight = members(flight, "flight", ["config", "fence", "telemetry"])
-    readings = flight.get("telemetry", [])
-    if not isinstance(readings, list):
-        raise Bad("telemetry: a list of readings is wanted")
+    flight = members(flight, "flight", ["config", "fence", "areas", "telemetry"])
     frames = [frame(CONFIG, config_body(flight.get("config", {}))), fence_frame(flight.get("fence", {}))]
-    frames += [frame(TELEMETRY, telemetry_body(value, f"telemetry[{k}]")) for k, value in enumerate(readings)]
+    areas = [area_of(value, f"areas[{k}]") for k, value in enumerate(list_of(flight, "areas", "areas"))]
+    before = []
+    for k, value in enumerate(list_of(flight, "telemetry", "readings")):
+        body = telemetry_body(value, f"telemetry[{k}]")
+        now = value["now_ms"]
+        held_now = [area for since, until, area in areas if since <= now < until]
+        if held_now != before:
+            frames.append(areas_frame(held_now))
+            before = held_now
+        frames.append(frame(TELEMETRY, body))
     return b"".join(frames)
 
 
@@ -336,6 +378,22 @@ def show_fence(body):
     return f"{KINDS[body.kind]}: {number(low)} to {number(high)} m, {count} corners {' '.join(corners)}".rstrip()
 
 
+def read_area(body):
+    """An area's number and corners."""
+    area, count = body.u8(), body.u8()
+    return area, [(body.f32(), body.f32()) for _ in range(count)]
+
+
+def read_areas(body):
+    """The areas of a frame of kind 7 or 13."""
+    return [read_area(body) for _ in range(body.u8() if body.kind == AREAS else 1)]
+
+
+def show_areas(body):
+    told = [f"{area}: {len(corners)} corners {' '.join(map(numbers, corners))}".rstrip() for area, corners in read_areas(body)]
+    return f"{KINDS[body.kind]}{' ' if body.kind == AREA else ': '}{'; '.join(told) or 'none'}"
+
+
 def show_telemetry(body):
     now = body.u32()
     told = [f"Telemetry: now {now}"]
@@ -367,9 +425,11 @@ def show_telemetry(body):
 
 
 def show_side(side, corners):
-    """The side that gave the distance: its number, and its corners where the fence is known."""
-    if side == 255:
+    """The side that gave the distance: its number, and its corners where the fence is known; or that an area did."""
+    if side == NO_SIDE:
         return "no side"
+    if side == AREA_SIDE:
+        return "an area"
     if side < len(corners):
         return f"side {side} from {numbers(corners[side])} to {numbers(corners[(side + 1) % len(corners)])}"
     return f"side {side}"
@@ -456,7 +516,8 @@ def show(stream, times, corners):
                 refusal = struct.unpack("<H", body.take(2))[0]
                 line = f"Refusal {refusal}: {REFUSALS.get(refusal, 'no number of document 01')}"
             else:
-                shows = {CONFIG: show_config, FENCE: show_fence, FENCE_ONCE_ROUND: show_fence, TELEMETRY: show_telemetry, STATE: show_state}
+                shows = {CONFIG: show_config, FENCE: show_fence, FENCE_ONCE_ROUND: show_fence, TELEMETRY: show_telemetry, STATE: show_state,
+                         AREA: show_areas, AREAS: show_areas}
                 line = shows[kind](body)
             body.end()
         except Bad as bad:
@@ -570,12 +631,24 @@ def held(corners):
     return corners if area > 0 else corners[::-1]
 
 
-def draw_fence(body, points=()):
+def drawable(corners):
+    return len(corners) >= 3 and all(abs(x) <= 10000 for corner in corners for x in corner)
+
+
+def draw_area(area, ends):
+    """An area as SVG, from the places of its corners: filled, with its number in the middle."""
+    x, y = (sum(xs) / len(xs) for xs in zip(*ends))
+    outline = " ".join(f"{x:.1f},{y:.1f}" for x, y in ends)
+    return [f'<polygon points="{outline}" stroke="firebrick" fill="mistyrose"/>',
+            f'<text x="{x:.1f}" y="{y:.1f}" font-size="14" fill="firebrick" text-anchor="middle" dominant-baseline="central">{area}</text>']
+
+
+def draw_fence(body, points=(), areas=()):
     """A fence as SVG: its sides from corner to corner, and each side's number a little beside its middle. Points are
-    (north, east, inside); those beyond the fence's size on each side are left out."""
+    (north, east, inside); those beyond the fence's size on each side are left out. Areas are (number, corners)."""
     count, low, high = body.u8(), body.f32(), body.f32()
     sent = [(body.f32(), body.f32()) for _ in range(count)]
-    if count < 3 or not all(abs(x) <= 10000 for corner in sent for x in corner):
+    if not drawable(sent):
         raise Bad("a fence of 3 corners or more, each within ±10,000 m, can be drawn")
     corners = held(sent)
     south, north = min(n for n, _ in corners), max(n for n, _ in corners)
@@ -590,6 +663,8 @@ def draw_fence(body, points=()):
     width, height = 2 * edge + 520 * (east - west) / size, 2 * edge + 30 + 520 * (north - south) / size
     lines = [f'<svg xmlns="http://www.w3.org/2000/svg" width="{width:.0f}" height="{height:.0f}" font-family="sans-serif">',
              '<rect width="100%" height="100%" fill="white"/>']
+    for area, ring in areas:
+        lines += draw_area(area, [place(n, e) for n, e in ring])
     for side, ((x, y), (x1, y1)) in enumerate(zip(ends, ends[1:] + ends[:1])):
         long = max(((x1 - x) ** 2 + (y1 - y) ** 2) ** 0.5, 1.0)
         at_x, at_y = (x + x1) / 2 - 12 * (y1 - y) / long, (y + y1) / 2 + 12 * (x1 - x) / long
@@ -663,37 +738,40 @@ def merge_bodies(first, second, capacity):
     return bytes(merged)
 
 
-def telemetry_of(path):
-    """The telemetry bodies of a flight or its frames, each as `show` takes it; and the frames before them."""
-    before, bodies = [], []
+def checked_frames(path):
+    """The frames of a flight, kind and body, each telemetry as `show` takes it."""
+    frames = []
     for at, kind, bytes_ in frames_of(path):
-        if kind != TELEMETRY:
-            before.append((kind, bytes_))
-            continue
-        body = Body(kind, bytes_)
-        try:
-            show_telemetry(body)
-            body.end()
-        except Bad as bad:
-            raise Bad(f"{path}: byte {at}: {bad}") from None
-        bodies.append(bytes_)
-    return before, bodies
+        if kind == TELEMETRY:
+            body = Body(kind, bytes_)
+            try:
+                show_telemetry(body)
+                body.end()
+            except Bad as bad:
+                raise Bad(f"{path}: byte {at}: {bad}") from None
+        frames.append((kind, bytes_))
+    return frames
+
+
+def telemetry_in(frames):
+    return [body for kind, body in frames if kind == TELEMETRY]
 
 
 def merge_flights(first, second):
-    before, a = telemetry_of(first)
-    b = telemetry_of(second)[1]
-    if len(before) != 2 or len(before[0][1]) != 242:
+    """The first flight's frames, with its telemetry merged with the second's."""
+    whole = checked_frames(first)
+    a, b = telemetry_in(whole), telemetry_in(checked_frames(second))
+    before = [body for kind, body in whole if kind not in (TELEMETRY, AREAS)]
+    if len(before) != 2 or len(before[0]) != 242:
         raise Bad(f"{first}: a configuration and a fence are wanted before the telemetry")
     if len(a) != len(b):
         raise Bad(f"{first} has {len(a)} telemetries and {second} has {len(b)}")
-    capacity = struct.unpack_from("<f", before[0][1], 1)[0]
-    frames = [frame(kind, body) for kind, body in before]
+    capacity = struct.unpack_from("<f", before[0], 1)[0]
     for k, (x, y) in enumerate(zip(a, b)):
         if x[:4] != y[:4]:
             raise Bad(f"telemetry[{k}].now_ms: the two radios' differ (refusal 38)")
-        frames.append(frame(TELEMETRY, merge_bodies(x, y, capacity)))
-    return b"".join(frames)
+    merged = (merge_bodies(x, y, capacity) for x, y in zip(a, b))
+    return b"".join(frame(kind, next(merged) if kind == TELEMETRY else body) for kind, body in whole)
 
 
 # ---- the command
@@ -774,16 +852,36 @@ def write_bytes(bytes_, to):
         sys.stdout.buffer.write(bytes_)
 
 
+def areas_of(frames):
+    """Every area of these frames, once."""
+    areas = []
+    for at, kind, bytes_ in frames:
+        if kind in (AREA, AREAS):
+            body = Body(kind, bytes_)
+            with_place(at, lambda: areas.extend(area for area in read_areas(body) if area not in areas))
+    for area, corners in areas:
+        if not drawable(corners):
+            raise Bad(f"area {area}: an area of 3 corners or more, each within ±10,000 m, can be drawn")
+    return areas
+
+
+def with_place(at, work):
+    """What work answers; where it is bad input, with the frame's place."""
+    try:
+        return work()
+    except Bad as bad:
+        raise Bad(f"byte {at}: {bad}") from None
+
+
 def draw(path, points=()):
-    """The fence of a flight or of frames as SVG."""
-    for at, kind, bytes_ in frames_of(path):
+    """The fence of a flight or of frames as SVG, with its areas."""
+    frames = list(frames_of(path))
+    for at, kind, bytes_ in frames:
         if kind in FENCES:
             body = Body(kind, bytes_)
-            try:
-                drawn = draw_fence(body, points)
-                body.end()
-            except Bad as bad:
-                raise Bad(f"byte {at}: {bad}") from None
+            areas = areas_of(frames)
+            drawn = with_place(at, lambda: draw_fence(body, points, areas))
+            with_place(at, body.end)
             return drawn.encode()
     raise Bad(f"{path}: there is no fence")
 

@@ -18,6 +18,29 @@ static uint32_t step(const struct slice *s)
                          s[TELEMETRY].bytes, s[TELEMETRY].len, s[OUTPUT].bytes, s[OUTPUT].len);
 }
 
+static uint32_t step_side(const struct slice *s, uint8_t *state, uint8_t *shown)
+{
+    return failsafe_step_side(s[CONFIG].bytes, s[CONFIG].len, s[FENCE].bytes, s[FENCE].len, state, FAILSAFE_STATE_BYTES,
+                              s[TELEMETRY].bytes, s[TELEMETRY].len, shown, FAILSAFE_SIDE_BYTES);
+}
+
+static uint32_t step_areas(const struct slice *s, uint8_t *state, uint8_t *shown)
+{
+    return failsafe_step_areas(s[CONFIG].bytes, s[CONFIG].len, s[FENCE].bytes, s[FENCE].len, state, FAILSAFE_STATE_BYTES,
+                               s[TELEMETRY].bytes, s[TELEMETRY].len, shown, FAILSAFE_SIDE_BYTES, NULL, 0);
+}
+
+/* No bytes of areas are no area, for a step and for the edits. */
+static int no_areas_fail(const struct slice *s)
+{
+    uint8_t states[2][FAILSAFE_STATE_BYTES], shown[2][FAILSAFE_SIDE_BYTES] = {{0}};
+    memcpy(states[0], s[STATE].bytes, sizeof states[0]);
+    memcpy(states[1], s[STATE].bytes, sizeof states[1]);
+    return step_side(s, states[0], shown[0]) != 0 || step_areas(s, states[1], shown[1]) != 0 || memcmp(states[0], states[1], sizeof states[0]) ||
+           memcmp(shown[0], shown[1], sizeof shown[0]) || failsafe_add_area(NULL, 0, NULL, 0, NULL, 0) != 1 ||
+           failsafe_remove_area(NULL, 0, 1, NULL, 0) != 31;
+}
+
 /* The next frame of standard input. */
 static struct slice next_frame(uint8_t *bytes)
 {
@@ -55,6 +78,10 @@ int main(void)
             printf("slice %d empty: answered %u\n", i, (unsigned)answer);
             failed = 1;
         }
+    }
+    if (no_areas_fail(s)) {
+        printf("no areas are not taken for none\n");
+        failed = 1;
     }
     return failed;
 }

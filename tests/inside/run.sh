@@ -9,10 +9,7 @@ cd "$top" || exit 1
 build=$top/build/inside
 mkdir -p "$build"
 
-if ! rt staticlib failsafe >"$build/staticlib.out" 2>&1; then
-    cat "$build/staticlib.out"
-    exit 1
-fi
+staticlib
 gcc -std=c11 -O2 -Wall -Wextra -Werror -pedantic -Iinclude -o "$build/map" examples/map.c target/staticlib/libfailsafe.a || exit 1
 tools/frames.py points samples/points.txt "$build/points" || exit 1
 head -c 291 samples/flight.frames | tail -c 45 >"$build/fence"
@@ -25,8 +22,6 @@ if "$build/map" "$build/fence" "$build/fence" >"$build/none" 2>"$build/said" || 
     exit 1
 fi
 
-CUTHRANSI_STATICLIB=$top/target/staticlib
-export CUTHRANSI_STATICLIB
 beside=$(oracle/run.sh --path inside 2>"$build/said")
 need $? "$build/said"
 "$beside" "$@"

@@ -9,12 +9,7 @@ cd "$top" || exit 1
 build=$top/build/spell
 mkdir -p "$build"
 
-if ! rt staticlib failsafe >"$build/staticlib.out" 2>&1; then
-    cat "$build/staticlib.out"
-    exit 1
-fi
-CUTHRANSI_STATICLIB=$top/target/staticlib
-export CUTHRANSI_STATICLIB
+staticlib
 beside=$(oracle/run.sh --path spellings 2>"$build/said")
 need $? "$build/said"
 "$beside" "$@"

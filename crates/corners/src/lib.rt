@@ -6,7 +6,7 @@ ghost use lib.Dec.{ltb};
 ghost use lib.ListN.{take};
 ghost use Rattle.corners.specs.Ring.{any, tails};
 ghost use Rattle.corners.specs.Round.{place, failed, roundOf};
-ghost use Rattle.corners.specs.Acceptance.{fenceErrorNumber, declaredNumber, resultAnd, faultIf, firstFault, cornerFault, samePoint, recurs, flatTurn, cross2, areaTerm, polygonFault, judged};
+ghost use Rattle.corners.specs.Acceptance.{fenceErrorNumber, declaredNumber, resultAnd, faultIf, firstFault, cornerFault, samePoint, recurs, flatTurn, cross2, areaTerm, polygonArea, polygonFault, judged};
 ghost use Rattle.corners.specs.OnceRound.{northSign, differ, joinIf, signChanges};
 use types::Point2;
 
@@ -248,6 +248,23 @@ fn go_round(pts: [Point2; 16], n: usize) -> Round
         neg: neg,
         area: area * 0.5,
     }
+}
+
+// The area that n corners enclose, by itself: above 0 where they go counter-clockwise.
+pub fn area(pts: [Point2; 16], n: usize) -> f32
+    ensures { λ r. ⌜ r ≡ polygonArea (take n pts) ⌝ }
+{
+    let m = capped(n);
+    let mut sum: f32 = 0.0;
+    let mut i: usize = 0;
+    while i < m {
+        let j = wrapped(i + 1, m);
+        let a = pts[i];
+        let b = pts[j];
+        sum = sum + area_term(a, b);
+        i += 1;
+    }
+    sum * 0.5
 }
 
 // 1 for a side that goes north, 2 for one that goes south, 0 for neither.

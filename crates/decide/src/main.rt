@@ -1,6 +1,6 @@
-// Program `decide`: frames of kinds 1, 2 and 3 from standard input, frames of kind 4, and of kind 255 for a refusal, to
-// standard output. The work is in the crate `stream`; here is input and output in blocks. What is proved of these functions
-// is that they are safe and end.
+// Program `decide`: a frame of kind 1, one of kind 2 or 8, then frames of kind 3, with at most one of kind 13 before each, from
+// standard input; frames of kind 4, and of kind 255 for a refusal, to standard output. The work is in the crate `stream`; here
+// is input and output in blocks. What is proved of these functions is that they are safe and end.
 ghost use Prim.Native.Nat.{_≤_};
 use flight::Flight;
 use libc::STDIN_FILENO;
@@ -25,7 +25,7 @@ fn write_out(out: usize, output: &[u8]) -> bool {
     }
 }
 
-// ---- a kind 1, a kind 2
+// ---- a kind 1, a kind 2 or 8
 
 // The session, how many bytes were taken, and whether to go on.
 struct Setup {
@@ -66,22 +66,33 @@ fn set_up(session: Session, input: &[u8], output: &mut [u8]) -> Setup {
     p
 }
 
-// ---- kind 3 frames
+// ---- kind 3 frames, and kind 13 frames between them
 
-// What is due, the supervisor, how many bytes were taken, whether every write went well, and whether to go on.
+// What is due, the supervisor, how many bytes of areas are held, how many bytes were taken, whether every write went well, and
+// whether to go on.
 struct Flying {
     due: Due,
     supervisor: Supervisor,
+    areas: usize,
     at: usize,
     ok: bool,
     more: bool,
 }
 
-// Answers as many whole frames as the output block has room for, and writes the answers out.
-fn fly_next(f: Flight, p: Flying, input: &[u8], output: &mut [u8]) -> Flying {
+// Answers as many whole frames as the output block has room for, and writes the answers out. `held` has room for the longest
+// frame of areas.
+fn fly_next(
+    f: Flight,
+    p: Flying,
+    input: &[u8],
+    output: &mut [u8],
+    held: &mut [u8; 1045],
+) -> Flying {
+    let before = p.due;
     let s = p.supervisor;
+    let areas = least(p.areas, 1045);
     let at = least(p.at, input.len());
-    let a = stream::fly_frames(f, s, &input[at..], output);
+    let a = stream::fly_frames(f, before, s, areas, &input[at..], output, held);
     let due = a.due;
     let after = a.supervisor;
     let taken = least(a.taken, input.len() - at);
@@ -89,6 +100,7 @@ fn fly_next(f: Flight, p: Flying, input: &[u8], output: &mut [u8]) -> Flying {
     Flying {
         due: due,
         supervisor: after,
+        areas: a.areas,
         at: at + taken,
         ok: ok,
         more: ok & stream::in_flight(due) & (0 < taken),
@@ -97,17 +109,27 @@ fn fly_next(f: Flight, p: Flying, input: &[u8], output: &mut [u8]) -> Flying {
 
 // Answers every whole frame of the input, until none is taken. A frame has at least two bytes, so as many turns as there are
 // bytes are enough.
-fn fly(f: Flight, s: Supervisor, from: usize, input: &[u8], output: &mut [u8]) -> Flying {
+fn fly(
+    session: Session,
+    from: usize,
+    input: &[u8],
+    output: &mut [u8],
+    held: &mut [u8; 1045],
+) -> Flying {
+    let f = session.flight;
+    let due = session.due;
+    let s = session.supervisor;
     let mut p = Flying {
-        due: Due::Telemetry,
+        due: due,
         supervisor: s,
+        areas: session.areas,
         at: from,
         ok: true,
         more: true,
     };
     let mut turns = input.len();
     while turns > 0 && p.more {
-        p = fly_next(f, p, input, output);
+        p = fly_next(f, p, input, output, held);
         turns -= 1;
     }
     p
@@ -157,12 +179,18 @@ fn ended(session: Session) -> Kept {
     }
 }
 
-// Answers every whole frame of kind 3 from `from` on, writes the answers out and keeps the rest for the next read.
-fn fly_on(session: Session, from: usize, full: usize, input: &mut [u8], output: &mut [u8]) -> Kept {
+// Answers every whole frame of kind 3 or 13 from `from` on, writes the answers out and keeps the rest for the next read.
+fn fly_on(
+    session: Session,
+    from: usize,
+    full: usize,
+    input: &mut [u8],
+    output: &mut [u8],
+    held: &mut [u8; 1045],
+) -> Kept {
     let f = session.flight;
-    let s = session.supervisor;
     let stop = least(full, input.len());
-    let p = fly(f, s, from, &input[..stop], output);
+    let p = fly(session, from, &input[..stop], output, held);
     let due = p.due;
     let after = p.supervisor;
     let at = least(p.at, stop);
@@ -172,6 +200,7 @@ fn fly_on(session: Session, from: usize, full: usize, input: &mut [u8], output: 
             due: due,
             flight: f,
             supervisor: after,
+            areas: p.areas,
         },
         have: stop - at,
         more: p.ok & stream::in_flight(due),
@@ -179,7 +208,7 @@ fn fly_on(session: Session, from: usize, full: usize, input: &mut [u8], output: 
 }
 
 // Reads once, answers what is whole, and keeps the rest for the next read.
-fn read_once(k: Kept, input: &mut [u8], output: &mut [u8]) -> Kept {
+fn read_once(k: Kept, input: &mut [u8], output: &mut [u8], held: &mut [u8; 1045]) -> Kept {
     let session = k.session;
     let have = k.have;
     let due = session.due;
@@ -193,7 +222,7 @@ fn read_once(k: Kept, input: &mut [u8], output: &mut [u8]) -> Kept {
     let next = p.session;
     let after = next.due;
     if stream::in_flight(after) {
-        return fly_on(next, p.at, full, input, output);
+        return fly_on(next, p.at, full, input, output, held);
     }
     let at = least(p.at, full);
     move_front(input, at, full);
@@ -204,11 +233,13 @@ fn read_once(k: Kept, input: &mut [u8], output: &mut [u8]) -> Kept {
     }
 }
 
-// The input block has room for a frame of 65,537 bytes, the longest, beside a partial one. The count of turns is there
-// because a proved loop has to end; no input is that long.
+// The input block has room for a frame of 65,537 bytes, the longest, beside a partial one; `held` for eight areas of sixteen
+// corners, the most that a frame of kind 13 can hold. The count of turns is there because a proved loop has to end; no input is
+// that long.
 fn main() {
     let mut input = [0u8; 131072];
     let mut output = io::large_buffer();
+    let mut held = [0u8; 1045];
     let mut k = Kept {
         session: stream::begin(),
         have: 0,
@@ -216,7 +247,7 @@ fn main() {
     };
     let mut turns = u64::MAX;
     while turns > 0 && k.more {
-        k = read_once(k, &mut input, &mut output);
+        k = read_once(k, &mut input, &mut output, &mut held);
         turns -= 1;
     }
 }

@@ -13,7 +13,7 @@ use Rattle.frame_telemetry.specs.declared.TelemetryRead.{TelemetryRead}
 use Rattle.frame_telemetry.specs.TelemetryFrame.{readTelemetry}
 use Rattle.flight.specs.declared.Flight.{Flight}
 use Rattle.flight.specs.Flight.{readFlight, stepFlight}
-use Rattle.entries.specs.Entry.{StepCall, declined, outputSize, succeeded, written, afterTelemetry, afterState, stepAny}
+use Rattle.entries.specs.Entry.{StepCall, declined, outputSize, succeeded, written, afterTelemetry, afterState, refusedFirst, stepAny}
 
 -- a call that is 0, or has both buffers as they were
 abbrev Keeps : StepCall → List ℕ → List ℕ → Type 0
@@ -27,21 +27,21 @@ module _ (withSide : Bool) where
       at true e = (refl, refl)
       at false e = absurd (true≢false e)
 
-  telemetry-keeps : (r : TelemetryRead) (f : Flight) (s : Supervisor) (state output : List ℕ) → Keeps (afterTelemetry withSide r f s state output) state output
-  telemetry-keeps (TelemetryRead.Refused n) f s state output e = (refl, refl)
-  telemetry-keeps (TelemetryRead.Frame t) f s state output e = written-keeps (stepFlight f s t) state output e
+  telemetry-keeps : (r : TelemetryRead) (f : Flight) (areas : List ℕ) (s : Supervisor) (state output : List ℕ) → Keeps (afterTelemetry withSide r f areas s state output) state output
+  telemetry-keeps (TelemetryRead.Refused n) f areas s state output e = (refl, refl)
+  telemetry-keeps (TelemetryRead.Frame t) f areas s state output e = written-keeps (stepFlight f areas s t) state output e
 
-  state-keeps : (r : StateRead) (f : Flight) (state telemetry output : List ℕ) → Keeps (afterState withSide r f state telemetry output) state output
-  state-keeps (StateRead.Refused n) f state telemetry output e = (refl, refl)
-  state-keeps (StateRead.Frame s) f state telemetry output e = telemetry-keeps (readTelemetry telemetry) f s state output e
+  state-keeps : (r : StateRead) (f : Flight) (areas state telemetry output : List ℕ) → Keeps (afterState withSide r f areas state telemetry output) state output
+  state-keeps (StateRead.Refused n) f areas state telemetry output e = (refl, refl)
+  state-keeps (StateRead.Frame s) f areas state telemetry output e = telemetry-keeps (readTelemetry telemetry) f areas s state output e
 
-  pub declined-keeps : (config fence state telemetry output : List ℕ) → Keeps (stepAny withSide config fence state telemetry output) state output
+  pub declined-keeps : (config fence state telemetry output areas : List ℕ) → Keeps (stepAny withSide config fence state telemetry output areas) state output
   unfolding stepAny
-  declined-keeps config fence state telemetry output = at (eqb (f .refused) 0)
+  declined-keeps config fence state telemetry output areas = at (eqb (refusedFirst f areas) 0)
     where
       f : Flight
       f = readFlight config fence
 
-      at : (b : Bool) → Keeps (cond b (afterState withSide (readState state) f state telemetry output) (declined (f .refused) state output)) state output
-      at true e = state-keeps (readState state) f state telemetry output e
+      at : (b : Bool) → Keeps (cond b (afterState withSide (readState state) f areas state telemetry output) (declined (refusedFirst f areas) state output)) state output
+      at true e = state-keeps (readState state) f areas state telemetry output e
       at false e = (refl, refl)

@@ -1,3 +1,4 @@
 -- The laws that the entries' proofs cite.
 pub mod Buffers
 pub mod Declined
+pub mod NoAreas

@@ -16,7 +16,8 @@ use Rattle.frame_telemetry.specs.TelemetryFrame.{readTelemetry}
 use Rattle.frame_decision.specs.DecisionFrame.{decisionFrame}
 use Rattle.frame_side.specs.SideFrame.{sideFrame}
 use Rattle.flight.specs.declared.Flight.{Flight}
-use Rattle.flight.specs.Flight.{readFlight, stepFlight}
+use Rattle.flight.specs.Flight.{orRefused, readFlight, stepFlight}
+use Rattle.frame_areas.specs.AreasFrame.{areasFault}
 
 -- a call's number and buffers at its end
 pub record StepCall : Type 0 where
@@ -47,26 +48,30 @@ abbrev pub written : Bool → Stepped → List ℕ → List ℕ → StepCall
 written withSide next state output = cond (ltb (length output) (outputSize withSide)) (declined 5 state output) (succeeded withSide next output)
 
 -- ".. state, telemetry .."
-abbrev pub afterTelemetry : Bool → TelemetryRead → Flight → Supervisor → List ℕ → List ℕ → StepCall
-afterTelemetry withSide (TelemetryRead.Refused n) f s state output = declined n state output
-afterTelemetry withSide (TelemetryRead.Frame t) f s state output = written withSide (stepFlight f s t) state output
+abbrev pub afterTelemetry : Bool → TelemetryRead → Flight → List ℕ → Supervisor → List ℕ → List ℕ → StepCall
+afterTelemetry withSide (TelemetryRead.Refused n) f areas s state output = declined n state output
+afterTelemetry withSide (TelemetryRead.Frame t) f areas s state output = written withSide (stepFlight f areas s t) state output
 
-abbrev pub afterState : Bool → StateRead → Flight → List ℕ → List ℕ → List ℕ → StepCall
-afterState withSide (StateRead.Refused n) f state telemetry output = declined n state output
-afterState withSide (StateRead.Frame s) f state telemetry output = afterTelemetry withSide (readTelemetry telemetry) f s state output
+abbrev pub afterState : Bool → StateRead → Flight → List ℕ → List ℕ → List ℕ → List ℕ → StepCall
+afterState withSide (StateRead.Refused n) f areas state telemetry output = declined n state output
+afterState withSide (StateRead.Frame s) f areas state telemetry output = afterTelemetry withSide (readTelemetry telemetry) f areas s state output
 
--- "configuration frame, fence frame, fence rules, configuration rules ..": the first refusal
-abbrev pub afterFlight : Bool → Flight → List ℕ → List ℕ → List ℕ → StepCall
-afterFlight withSide f state telemetry output = cond (eqb (f .refused) 0) (afterState withSide (readState state) f state telemetry output) (declined (f .refused) state output)
+-- "configuration frame, fence frame, fence rules, configuration rules"; document 02, L3, of the areas: "after the configuration rules"; the first refusal
+abbrev pub refusedFirst : Flight → List ℕ → ℕ
+refusedFirst f areas = orRefused (f .refused) (areasFault areas)
 
--- a call of any step entry: `withSide` is whether it writes kind 6
-unfoldable pub stepAny : Bool → List ℕ → List ℕ → List ℕ → List ℕ → List ℕ → StepCall
-stepAny withSide config fence state telemetry output = afterFlight withSide (readFlight config fence) state telemetry output
+abbrev pub afterFlight : Bool → Flight → List ℕ → List ℕ → List ℕ → List ℕ → StepCall
+afterFlight withSide f areas state telemetry output =
+    cond (eqb (refusedFirst f areas) 0) (afterState withSide (readState state) f areas state telemetry output) (declined (refusedFirst f areas) state output)
 
--- the same, or with `checking` configuration and fence alone: the first refusal, and nothing is written
-unfoldable pub stepOrCheck : Bool → Bool → List ℕ → List ℕ → List ℕ → List ℕ → List ℕ → StepCall
-stepOrCheck checking withSide config fence state telemetry output =
-    cond checking (declined (readFlight config fence .refused) state output) (stepAny withSide config fence state telemetry output)
+-- a call of any step entry: `withSide` is whether it writes kind 6, and `areas` is empty where it takes none
+unfoldable pub stepAny : Bool → List ℕ → List ℕ → List ℕ → List ℕ → List ℕ → List ℕ → StepCall
+stepAny withSide config fence state telemetry output areas = afterFlight withSide (readFlight config fence) areas state telemetry output
+
+-- the same, or with `checking` configuration, fence and areas alone: the first refusal, and nothing is written
+unfoldable pub stepOrCheck : Bool → Bool → List ℕ → List ℕ → List ℕ → List ℕ → List ℕ → List ℕ → StepCall
+stepOrCheck checking withSide config fence state telemetry output areas =
+    cond checking (declined (refusedFirst (readFlight config fence) areas) state output) (stepAny withSide config fence state telemetry output areas)
 
 pub record FreshCall : Type 0 where
   pub number : ℕ

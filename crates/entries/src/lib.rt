@@ -3,7 +3,8 @@ ghost use mathlib.Core.Path.{_≡_};
 ghost use mathlib.Core.List.{_++_};
 ghost use Prim.Native.Nat.{_≤_};
 ghost use lib.ListN.{length, drop};
-ghost use Rattle.flight.specs.Flight.{readFlight, stepFlight};
+ghost use Rattle.flight.specs.Flight.{orRefused, readFlight, stepFlight};
+ghost use Rattle.frame_areas.specs.AreasFrame.{areasFault};
 ghost use Rattle.frame_state.specs.StateFrame.{readState};
 ghost use Rattle.frame_telemetry.specs.TelemetryFrame.{readTelemetry};
 ghost use Rattle.entries.specs.Entry.{outputFrame, outputSize, written, afterTelemetry, afterState, stepAny, stepOrCheck, freshCall};
@@ -36,20 +37,21 @@ fn write_output(with_side: bool, d: Decision, side: u8, output: &mut [u8])
 fn step_write(
     with_side: bool,
     flight: Flight,
+    areas: &[u8],
     s: Supervisor,
     t: Telemetry,
     state: &mut [u8],
     output: &mut [u8],
 ) -> u32
     requires { ⌜ length (now state) ≡ 186 ⌝ }
-    ensures { λ r. ⌜ r ≡ written «with_side» (stepFlight flight s t) (now (state .entry)) (now (output .entry)) .number ⌝ }
-    ensures { λ _. ⌜ now (state .exit) ≡ written «with_side» (stepFlight flight s t) (now (state .entry)) (now (output .entry)) .state ⌝ }
-    ensures { λ _. ⌜ now (output .exit) ≡ written «with_side» (stepFlight flight s t) (now (state .entry)) (now (output .entry)) .output ⌝ }
+    ensures { λ r. ⌜ r ≡ written «with_side» (stepFlight flight (now (areas .entry)) s t) (now (state .entry)) (now (output .entry)) .number ⌝ }
+    ensures { λ _. ⌜ now (state .exit) ≡ written «with_side» (stepFlight flight (now (areas .entry)) s t) (now (state .entry)) (now (output .entry)) .state ⌝ }
+    ensures { λ _. ⌜ now (output .exit) ≡ written «with_side» (stepFlight flight (now (areas .entry)) s t) (now (state .entry)) (now (output .entry)) .output ⌝ }
 {
     if output.len() < output_size(with_side) {
         return 5;
     }
-    let next = flight::step_flight(flight, s, t);
+    let next = flight::step_flight(flight, areas, s, t);
     let after = next.supervisor;
     let d = next.decision;
     frame_state::write_state(state, after);
@@ -60,19 +62,20 @@ fn step_write(
 fn step_telemetry(
     with_side: bool,
     flight: Flight,
+    areas: &[u8],
     s: Supervisor,
     state: &mut [u8],
     telemetry: &[u8],
     output: &mut [u8],
 ) -> u32
     requires { ⌜ length (now state) ≡ 186 ⌝ }
-    ensures { λ r. ⌜ r ≡ afterTelemetry «with_side» (readTelemetry (now (telemetry .entry))) flight s (now (state .entry)) (now (output .entry)) .number ⌝ }
-    ensures { λ _. ⌜ now (state .exit) ≡ afterTelemetry «with_side» (readTelemetry (now (telemetry .entry))) flight s (now (state .entry)) (now (output .entry)) .state ⌝ }
-    ensures { λ _. ⌜ now (output .exit) ≡ afterTelemetry «with_side» (readTelemetry (now (telemetry .entry))) flight s (now (state .entry)) (now (output .entry)) .output ⌝ }
+    ensures { λ r. ⌜ r ≡ afterTelemetry «with_side» (readTelemetry (now (telemetry .entry))) flight (now (areas .entry)) s (now (state .entry)) (now (output .entry)) .number ⌝ }
+    ensures { λ _. ⌜ now (state .exit) ≡ afterTelemetry «with_side» (readTelemetry (now (telemetry .entry))) flight (now (areas .entry)) s (now (state .entry)) (now (output .entry)) .state ⌝ }
+    ensures { λ _. ⌜ now (output .exit) ≡ afterTelemetry «with_side» (readTelemetry (now (telemetry .entry))) flight (now (areas .entry)) s (now (state .entry)) (now (output .entry)) .output ⌝ }
 {
     match frame_telemetry::read_telemetry(telemetry) {
         TelemetryRead::Refused(n) => n as u32,
-        TelemetryRead::Frame(t) => step_write(with_side, flight, s, t, state, output),
+        TelemetryRead::Frame(t) => step_write(with_side, flight, areas, s, t, state, output),
     }
 }
 
@@ -80,21 +83,43 @@ fn step_telemetry(
 fn step_state(
     with_side: bool,
     flight: Flight,
+    areas: &[u8],
     state: &mut [u8],
     telemetry: &[u8],
     output: &mut [u8],
 ) -> u32
-    ensures { λ r. ⌜ r ≡ afterState «with_side» (readState (now (state .entry))) flight (now (state .entry)) (now (telemetry .entry)) (now (output .entry)) .number ⌝ }
-    ensures { λ _. ⌜ now (state .exit) ≡ afterState «with_side» (readState (now (state .entry))) flight (now (state .entry)) (now (telemetry .entry)) (now (output .entry)) .state ⌝ }
-    ensures { λ _. ⌜ now (output .exit) ≡ afterState «with_side» (readState (now (state .entry))) flight (now (state .entry)) (now (telemetry .entry)) (now (output .entry)) .output ⌝ }
+    ensures { λ r. ⌜ r ≡ afterState «with_side» (readState (now (state .entry))) flight (now (areas .entry)) (now (state .entry)) (now (telemetry .entry)) (now (output .entry)) .number ⌝ }
+    ensures { λ _. ⌜ now (state .exit) ≡ afterState «with_side» (readState (now (state .entry))) flight (now (areas .entry)) (now (state .entry)) (now (telemetry .entry)) (now (output .entry)) .state ⌝ }
+    ensures { λ _. ⌜ now (output .exit) ≡ afterState «with_side» (readState (now (state .entry))) flight (now (areas .entry)) (now (state .entry)) (now (telemetry .entry)) (now (output .entry)) .output ⌝ }
 {
     match frame_state::read_state(state) {
         StateRead::Refused(n) => n as u32,
-        StateRead::Frame(s) => step_telemetry(with_side, flight, s, state, telemetry, output),
+        StateRead::Frame(s) => step_telemetry(
+            with_side,
+            flight,
+            areas,
+            s,
+            state,
+            telemetry,
+            output,
+        ),
     }
 }
 
-// One step, or with `checking` the refusal of configuration and fence alone. Both are in one function, so that `read_flight` has one
+// The flight's refusal, or else that of the areas. Most flights have none, and then nothing is called.
+fn first_refusal(refused: u16, areas: &[u8]) -> u16
+    ensures { λ r. ⌜ r ≡ orRefused refused (areasFault (now (areas .entry))) ⌝ }
+{
+    if refused != 0 {
+        return refused;
+    }
+    if areas.len() == 0 {
+        return 0;
+    }
+    frame_areas::areas_fault(areas)
+}
+
+// One step, or with `checking` the refusal of configuration, fence and areas alone. Both are in one function, so that `read_flight` has one
 // caller and the compiler puts it into the step.
 fn step_or_check(
     checking: bool,
@@ -104,19 +129,21 @@ fn step_or_check(
     state: &mut [u8],
     telemetry: &[u8],
     output: &mut [u8],
+    areas: &[u8],
 ) -> u32
-    ensures { λ r. ⌜ r ≡ stepOrCheck checking «with_side» (now (config .entry)) (now (fence .entry)) (now (state .entry)) (now (telemetry .entry)) (now (output .entry)) .number ⌝ }
-    ensures { λ _. ⌜ now (state .exit) ≡ stepOrCheck checking «with_side» (now (config .entry)) (now (fence .entry)) (now (state .entry)) (now (telemetry .entry)) (now (output .entry)) .state ⌝ }
-    ensures { λ _. ⌜ now (output .exit) ≡ stepOrCheck checking «with_side» (now (config .entry)) (now (fence .entry)) (now (state .entry)) (now (telemetry .entry)) (now (output .entry)) .output ⌝ }
+    ensures { λ r. ⌜ r ≡ stepOrCheck checking «with_side» (now (config .entry)) (now (fence .entry)) (now (state .entry)) (now (telemetry .entry)) (now (output .entry)) (now (areas .entry)) .number ⌝ }
+    ensures { λ _. ⌜ now (state .exit) ≡ stepOrCheck checking «with_side» (now (config .entry)) (now (fence .entry)) (now (state .entry)) (now (telemetry .entry)) (now (output .entry)) (now (areas .entry)) .state ⌝ }
+    ensures { λ _. ⌜ now (output .exit) ≡ stepOrCheck checking «with_side» (now (config .entry)) (now (fence .entry)) (now (state .entry)) (now (telemetry .entry)) (now (output .entry)) (now (areas .entry)) .output ⌝ }
 {
     let flight = flight::read_flight(config, fence);
-    if flight.refused != 0 {
-        return flight.refused as u32;
+    let refused = first_refusal(flight.refused, areas);
+    if refused != 0 {
+        return refused as u32;
     }
     if checking {
         return 0;
     }
-    step_state(with_side, flight, state, telemetry, output)
+    step_state(with_side, flight, areas, state, telemetry, output)
 }
 
 // One step: `with_side` is whether kind 6 is written, and not kind 4.
@@ -127,12 +154,22 @@ pub fn step_any(
     state: &mut [u8],
     telemetry: &[u8],
     output: &mut [u8],
+    areas: &[u8],
 ) -> u32
-    ensures { λ r. ⌜ r ≡ stepAny «with_side» (now (config .entry)) (now (fence .entry)) (now (state .entry)) (now (telemetry .entry)) (now (output .entry)) .number ⌝ }
-    ensures { λ _. ⌜ now (state .exit) ≡ stepAny «with_side» (now (config .entry)) (now (fence .entry)) (now (state .entry)) (now (telemetry .entry)) (now (output .entry)) .state ⌝ }
-    ensures { λ _. ⌜ now (output .exit) ≡ stepAny «with_side» (now (config .entry)) (now (fence .entry)) (now (state .entry)) (now (telemetry .entry)) (now (output .entry)) .output ⌝ }
+    ensures { λ r. ⌜ r ≡ stepAny «with_side» (now (config .entry)) (now (fence .entry)) (now (state .entry)) (now (telemetry .entry)) (now (output .entry)) (now (areas .entry)) .number ⌝ }
+    ensures { λ _. ⌜ now (state .exit) ≡ stepAny «with_side» (now (config .entry)) (now (fence .entry)) (now (state .entry)) (now (telemetry .entry)) (now (output .entry)) (now (areas .entry)) .state ⌝ }
+    ensures { λ _. ⌜ now (output .exit) ≡ stepAny «with_side» (now (config .entry)) (now (fence .entry)) (now (state .entry)) (now (telemetry .entry)) (now (output .entry)) (now (areas .entry)) .output ⌝ }
 {
-    step_or_check(false, with_side, config, fence, state, telemetry, output)
+    step_or_check(
+        false,
+        with_side,
+        config,
+        fence,
+        state,
+        telemetry,
+        output,
+        areas,
+    )
 }
 
 // The first refusal of configuration and fence, as a step gives it; 0 for none.
@@ -141,7 +178,17 @@ pub fn check(config: &[u8], fence: &[u8]) -> u32
 {
     let mut state = [0u8; 1];
     let mut output = [0u8; 1];
-    step_or_check(true, false, config, fence, &mut state, fence, &mut output)
+    let none = [0u8; 0];
+    step_or_check(
+        true,
+        false,
+        config,
+        fence,
+        &mut state,
+        fence,
+        &mut output,
+        &none,
+    )
 }
 
 // A fresh state into the first 186 bytes; later bytes stay.

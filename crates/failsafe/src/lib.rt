@@ -1,7 +1,9 @@
 // The entries for the autopilot's C host: include/failsafe.h describes them. Each calls one function of a library that has its logic.
 ghost use mathlib.Core.Bool.{true, false};
+ghost use mathlib.Core.List.{[]};
 ghost use mathlib.Core.Path.{_≡_};
 ghost use Rattle.entries.specs.Entry.{stepAny, freshCall};
+ghost use Rattle.edit_areas.specs.Edit.{addCall, removeCall};
 ghost use Rattle.inside.specs.Call.{insideCall};
 ghost use Rattle.spelling.specs.Spell.{spellNumber, spellOutput};
 ghost use Rattle.trial.specs.Call.{trialCall};
@@ -16,11 +18,12 @@ pub extern "C" fn failsafe_step(
     telemetry: &[u8],
     output: &mut [u8],
 ) -> u32
-    ensures { λ r. ⌜ r ≡ stepAny false (now (config .entry)) (now (fence .entry)) (now (state .entry)) (now (telemetry .entry)) (now (output .entry)) .number ⌝ }
-    ensures { λ _. ⌜ now (state .exit) ≡ stepAny false (now (config .entry)) (now (fence .entry)) (now (state .entry)) (now (telemetry .entry)) (now (output .entry)) .state ⌝ }
-    ensures { λ _. ⌜ now (output .exit) ≡ stepAny false (now (config .entry)) (now (fence .entry)) (now (state .entry)) (now (telemetry .entry)) (now (output .entry)) .output ⌝ }
+    ensures { λ r. ⌜ r ≡ stepAny false (now (config .entry)) (now (fence .entry)) (now (state .entry)) (now (telemetry .entry)) (now (output .entry)) [] .number ⌝ }
+    ensures { λ _. ⌜ now (state .exit) ≡ stepAny false (now (config .entry)) (now (fence .entry)) (now (state .entry)) (now (telemetry .entry)) (now (output .entry)) [] .state ⌝ }
+    ensures { λ _. ⌜ now (output .exit) ≡ stepAny false (now (config .entry)) (now (fence .entry)) (now (state .entry)) (now (telemetry .entry)) (now (output .entry)) [] .output ⌝ }
 {
-    entries::step_any(false, config, fence, state, telemetry, output)
+    let none = [0u8; 0];
+    entries::step_any(false, config, fence, state, telemetry, output, &none)
 }
 
 // Document 02, L1: the same step, with the side of the fence in its output.
@@ -32,11 +35,46 @@ pub extern "C" fn failsafe_step_side(
     telemetry: &[u8],
     output: &mut [u8],
 ) -> u32
-    ensures { λ r. ⌜ r ≡ stepAny true (now (config .entry)) (now (fence .entry)) (now (state .entry)) (now (telemetry .entry)) (now (output .entry)) .number ⌝ }
-    ensures { λ _. ⌜ now (state .exit) ≡ stepAny true (now (config .entry)) (now (fence .entry)) (now (state .entry)) (now (telemetry .entry)) (now (output .entry)) .state ⌝ }
-    ensures { λ _. ⌜ now (output .exit) ≡ stepAny true (now (config .entry)) (now (fence .entry)) (now (state .entry)) (now (telemetry .entry)) (now (output .entry)) .output ⌝ }
+    ensures { λ r. ⌜ r ≡ stepAny true (now (config .entry)) (now (fence .entry)) (now (state .entry)) (now (telemetry .entry)) (now (output .entry)) [] .number ⌝ }
+    ensures { λ _. ⌜ now (state .exit) ≡ stepAny true (now (config .entry)) (now (fence .entry)) (now (state .entry)) (now (telemetry .entry)) (now (output .entry)) [] .state ⌝ }
+    ensures { λ _. ⌜ now (output .exit) ≡ stepAny true (now (config .entry)) (now (fence .entry)) (now (state .entry)) (now (telemetry .entry)) (now (output .entry)) [] .output ⌝ }
 {
-    entries::step_any(true, config, fence, state, telemetry, output)
+    let none = [0u8; 0];
+    entries::step_any(true, config, fence, state, telemetry, output, &none)
+}
+
+// Document 02, L3: the same, with the keep-out areas that are held.
+#[no_mangle]
+pub extern "C" fn failsafe_step_areas(
+    config: &[u8],
+    fence: &[u8],
+    state: &mut [u8],
+    telemetry: &[u8],
+    output: &mut [u8],
+    areas: &[u8],
+) -> u32
+    ensures { λ r. ⌜ r ≡ stepAny true (now (config .entry)) (now (fence .entry)) (now (state .entry)) (now (telemetry .entry)) (now (output .entry)) (now (areas .entry)) .number ⌝ }
+    ensures { λ _. ⌜ now (state .exit) ≡ stepAny true (now (config .entry)) (now (fence .entry)) (now (state .entry)) (now (telemetry .entry)) (now (output .entry)) (now (areas .entry)) .state ⌝ }
+    ensures { λ _. ⌜ now (output .exit) ≡ stepAny true (now (config .entry)) (now (fence .entry)) (now (state .entry)) (now (telemetry .entry)) (now (output .entry)) (now (areas .entry)) .output ⌝ }
+{
+    entries::step_any(true, config, fence, state, telemetry, output, areas)
+}
+
+// Document 02, L3: an area put in among those held, and one taken out.
+#[no_mangle]
+pub extern "C" fn failsafe_add_area(areas: &[u8], area: &[u8], output: &mut [u8]) -> u32
+    ensures { λ r. ⌜ r ≡ addCall (now (areas .entry)) (now (area .entry)) (now (output .entry)) .number ⌝ }
+    ensures { λ _. ⌜ now (output .exit) ≡ addCall (now (areas .entry)) (now (area .entry)) (now (output .entry)) .output ⌝ }
+{
+    edit_areas::add_area(areas, area, output)
+}
+
+#[no_mangle]
+pub extern "C" fn failsafe_remove_area(areas: &[u8], number: u8, output: &mut [u8]) -> u32
+    ensures { λ r. ⌜ r ≡ removeCall (now (areas .entry)) number (now (output .entry)) .number ⌝ }
+    ensures { λ _. ⌜ now (output .exit) ≡ removeCall (now (areas .entry)) number (now (output .entry)) .output ⌝ }
+{
+    edit_areas::remove_area(areas, number, output)
 }
 
 #[no_mangle]

@@ -5,8 +5,6 @@ use mathlib.Core.Bool.{cond}
 use mathlib.Core.List.{List}
 use lib.Dec.{eqb}
 use lib.ListN.{replicate}
-use Rattle.corners.specs.declared.FenceResult.{FenceResult}
-use Rattle.corners.specs.Acceptance.{fenceErrorNumber}
 use Rattle.geometry.specs.Polygon.{zeroPoint}
 use Rattle.geometry.specs.Distance.{ringOf, sideLengths}
 use Rattle.config.specs.declared.Config.{Config}
@@ -17,21 +15,17 @@ use Rattle.float32.specs.Binary32.{zeroF}
 use Rattle.types.specs.declared.Telemetry.{Telemetry}
 use Rattle.supervisor.specs.declared.Supervisor.{Supervisor}
 use Rattle.supervisor.specs.declared.Stepped.{Stepped}
-use Rattle.supervisor.specs.Settings.{baseSettings, fenceSiteBy, fedAt}
+use Rattle.supervisor.specs.Settings.{baseSettings, fenceSiteBy, withAreas, fedAt}
 use Rattle.supervisor.specs.Step.{step}
 use Rattle.frame_config.specs.declared.ConfigRead.{ConfigRead}
 use Rattle.frame_config.specs.ConfigFrame.{readConfig}
 use Rattle.frame_fence.specs.declared.FenceRead.{FenceRead}
-use Rattle.frame_fence.specs.FenceFrame.{readFence, fenceOf}
+use Rattle.frame_fence.specs.FenceFrame.{readFence, fenceOf, fenceNumber}
 use Rattle.flight.specs.declared.Flight.{Flight}
 
 -- the first of two refusals; 0 is none
 abbrev pub orRefused : ℕ → ℕ → ℕ
 orRefused a b = cond (eqb a 0) b a
-
-abbrev pub fenceNumber : FenceResult → ℕ
-fenceNumber FenceResult.Ok = 0
-fenceNumber (FenceResult.Err e) = fenceErrorNumber e
 
 abbrev pub configNumber : ConfigResult → ℕ
 configNumber ConfigResult.Ok = 0
@@ -66,6 +60,6 @@ afterConfig (ConfigRead.Frame cfg) fence = let read = readFence fence in cond (e
 unfoldable pub readFlight : List ℕ → List ℕ → Flight
 readFlight config fence = afterConfig (readConfig config) fence
 
--- one step, with the lengths that the flight holds
-unfoldable pub stepFlight : Flight → Supervisor → Telemetry → Stepped
-stepFlight f s t = step (baseSettings (f .cfg)) s (fedAt (fenceSiteBy (f .fence) (f .lengths)) t)
+-- one step, with the lengths that the flight holds, and with the keep-out areas of a frame
+unfoldable pub stepFlight : Flight → List ℕ → Supervisor → Telemetry → Stepped
+stepFlight f areas s t = step (baseSettings (f .cfg)) s (fedAt (withAreas areas (fenceSiteBy (f .fence) (f .lengths))) t)

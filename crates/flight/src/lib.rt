@@ -1,9 +1,8 @@
 // Configuration and fence of a flight: read, and accepted or refused, in document 01's order.
 ghost use mathlib.Core.Path.{_≡_};
-ghost use Rattle.flight.specs.Flight.{orRefused, fenceNumber, configNumber, refusedFlight, acceptFlight, readFlight, stepFlight};
+ghost use Rattle.flight.specs.Flight.{orRefused, configNumber, refusedFlight, acceptFlight, readFlight, stepFlight};
 use config::Config;
 use config::ConfigResult;
-use corners::FenceResult;
 use frame_config::ConfigRead;
 use frame_fence::FenceRead;
 use geometry::ConvexPolygon;
@@ -30,15 +29,6 @@ pub fn or_refused(a: u16, b: u16) -> u16
     if a == 0 { b } else { a }
 }
 
-fn fence_number(r: FenceResult) -> u16
-    ensures { λ n. ⌜ n ≡ fenceNumber r ⌝ }
-{
-    match r {
-        FenceResult::Ok => 0,
-        FenceResult::Err(e) => e.number(),
-    }
-}
-
 fn config_number(r: ConfigResult) -> u16
     ensures { λ n. ⌜ n ≡ configNumber r ⌝ }
 {
@@ -60,7 +50,7 @@ pub fn accept_flight(cfg: Config, read: FenceRead) -> Flight
     let home = Point2 { n: 0.0, e: 0.0 };
     let near = geometry::nearest_by(poly, lengths, home);
     let checked = config::check_config(cfg, 0.0 <= near.m, fence.min_alt_m, fence.max_alt_m);
-    let first = fence_number(result);
+    let first = frame_fence::fence_number(result);
     let second = config_number(checked);
     Flight {
         refused: or_refused(first, second),
@@ -114,12 +104,12 @@ pub fn read_flight(config: &[u8], fence: &[u8]) -> Flight
     }
 }
 
-// One step of an accepted flight.
-pub fn step_flight(flight: Flight, s: Supervisor, t: Telemetry) -> Stepped
-    ensures { λ r. ⌜ r ≡ stepFlight flight s t ⌝ }
+// One step of an accepted flight, with the frame of the keep-out areas.
+pub fn step_flight(flight: Flight, areas: &[u8], s: Supervisor, t: Telemetry) -> Stepped
+    ensures { λ r. ⌜ r ≡ stepFlight flight (now (areas .entry)) s t ⌝ }
 {
     let cfg = flight.cfg;
     let fence = flight.fence;
     let lengths = flight.lengths;
-    s.step_by(cfg, fence, lengths, t)
+    s.step_by(cfg, fence, lengths, areas, t)
 }

@@ -24,7 +24,7 @@ corner-at s i zero k d h = absurd (omega arith)
 corner-at s i (suc n) zero d h = ap (pointAt s) (omega arith)
 corner-at s i (suc n) (suc k) d h = corner-at s (i + 8) n k d (omega arith) ∙ ap (pointAt s) (omega arith)
 
-back : (n : ℕ) (l : List Point2) → length l ≡ min n 16 → take n (l ++ replicate (16 - length l) zeroPoint) ≡ l
+pub back : (n : ℕ) (l : List Point2) → length l ≡ min n 16 → take n (l ++ replicate (16 - length l) zeroPoint) ≡ l
 back n l e = cases (leb n 16) refl where
   cases : (b : Bool) → leb n 16 ≡ b → take n (l ++ replicate (16 - length l) zeroPoint) ≡ l
   cases true h = let k = leb-true n 16 h in take-at l (replicate (16 - length l) zeroPoint) n (omega arith)

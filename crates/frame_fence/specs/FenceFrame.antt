@@ -12,7 +12,8 @@ use Rattle.wire.specs.Frame.{frameFault, frameHead, roomFault, frameWritten}
 use Rattle.float32.specs.Binary32.{zeroF}
 use Rattle.types.specs.declared.Point2.{Point2}
 use Rattle.geometry.specs.declared.GeofenceResult.{GeofenceResult}
-use Rattle.corners.specs.Acceptance.{resultAnd}
+use Rattle.corners.specs.declared.FenceResult.{FenceResult}
+use Rattle.corners.specs.Acceptance.{fenceErrorNumber, resultAnd}
 use Rattle.geometry.specs.Polygon.{zeroPoint, polygonNew, geofenceNew}
 use Rattle.frame_fence.specs.declared.FenceRead.{FenceRead}
 
@@ -67,6 +68,11 @@ fenceRules once n minAlt maxAlt l =
 -- the rules on what was read
 unfoldable pub fenceOf : FenceRead → GeofenceResult
 fenceOf r = fenceRules (r .«once_round») (r .count) (r .«min_alt_m») (r .«max_alt_m») (take (r .count) (r .corners))
+
+-- the number of what the rules answer; 0 for none
+abbrev pub fenceNumber : FenceResult → ℕ
+fenceNumber FenceResult.Ok = 0
+fenceNumber (FenceResult.Err e) = fenceErrorNumber e
 
 -- the body as cells
 abbrev pub pointCells : Point2 → List Cell

@@ -4,8 +4,9 @@ ghost use Prim.Native.Nat.{_+_, _*_, _<_, _≤_, min};
 ghost use lib.ListN.{length, take};
 ghost use lib.Seq.{sets};
 ghost use Rattle.wire.specs.Cell.{bytesOf};
-ghost use Rattle.frame_fence.specs.FenceFrame.{fenceKind, pointAt, cornersAt, cornerArray, asksOnceRound, refusedFence, readFence, fenceOf};
+ghost use Rattle.frame_fence.specs.FenceFrame.{fenceKind, pointAt, cornersAt, cornerArray, asksOnceRound, refusedFence, readFence, fenceOf, fenceNumber};
 ghost use Rattle.frame_fence.specs.FenceFrame.{pointCells, cornerCells, fenceFrame, writeFault, fenceWritten};
+use corners::FenceResult;
 use geometry::ConvexPolygon;
 use geometry::Geofence;
 use geometry::GeofenceResult;
@@ -34,15 +35,16 @@ fn point_at(s: &[u8], at: usize) -> Point2
     }
 }
 
-fn corners_at(s: &[u8], n: usize) -> [Point2; 16]
-    requires { ⌜ (n ≤ 16) × (13 + 8 * n ≤ length (now s)) ⌝ }
-    ensures { λ r. ⌜ r ≡ cornerArray (cornersAt (now (s .entry)) 13 n) ⌝ }
+// n corners from a place on, which the slice has.
+pub fn corners_at(s: &[u8], at: usize, n: usize) -> [Point2; 16]
+    requires { ⌜ (n ≤ 16) × (at + 8 * n ≤ length (now s)) ⌝ }
+    ensures { λ r. ⌜ r ≡ cornerArray (cornersAt (now (s .entry)) at n) ⌝ }
 {
     let zero = Point2 { n: 0.0, e: 0.0 };
     let mut corners = [zero; 16];
     let mut i: usize = 0;
     while i < n {
-        let p = point_at(s, 13 + 8 * i);
+        let p = point_at(s, at + 8 * i);
         corners[i] = p;
         i += 1;
     }
@@ -100,7 +102,7 @@ pub fn read_fence(s: &[u8]) -> FenceRead
     if fault == 0 {
         let min_alt_m = wire::f32_at(s, 5);
         let max_alt_m = wire::f32_at(s, 9);
-        let corners = corners_at(s, capped(count));
+        let corners = corners_at(s, 13, capped(count));
         FenceRead {
             refused: 0,
             once_round: once_round,
@@ -128,6 +130,15 @@ pub fn fence_of(r: FenceRead) -> GeofenceResult
     GeofenceResult {
         result: first.and(second),
         fence: fence,
+    }
+}
+
+pub fn fence_number(r: FenceResult) -> u16
+    ensures { λ n. ⌜ n ≡ fenceNumber r ⌝ }
+{
+    match r {
+        FenceResult::Ok => 0,
+        FenceResult::Err(e) => e.number(),
     }
 }
 

@@ -28,9 +28,13 @@ placeHeld ccw n i = cond ccw i (n - 1 - i)
 abbrev pub normalizeCcw : Bool → List Point2 → ConvexPolygon
 normalizeCcw ccw l = record { verts = heldOrder ccw l ++ replicate (16 - length l) zeroPoint; len = length l }
 
--- the first error of n corners, by the rule of kind 8 too where it is asked, and beside it the corners as held, reversed where their area is not above 0
+-- reversed where their area is not above 0
+abbrev pub heldPolygon : List Point2 → ConvexPolygon
+heldPolygon l = normalizeCcw (lt zeroF (polygonArea l)) l
+
+-- the first error of n corners, by the rule of kind 8 too where it is asked, and beside it the corners as held
 unfoldable pub polygonNew : Bool → ℕ → List Point2 → PolygonResult
-polygonNew once n l = record { result = polygonFault once n l; poly = normalizeCcw (lt zeroF (polygonArea l)) l }
+polygonNew once n l = record { result = polygonFault once n l; poly = heldPolygon l }
 
 -- The Rust's Geofence::new: both altitudes finite, and the lower below the upper.
 unfoldable pub geofenceNew : ConvexPolygon → Float → Float → GeofenceResult

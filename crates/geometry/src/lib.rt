@@ -4,7 +4,7 @@ ghost use mathlib.Core.Bool.{false};
 ghost use Prim.Native.Nat.{_+_, _%_, _<_, _≤_};
 ghost use lib.ListN.{take};
 ghost use lib.Dec.{eqb};
-ghost use Rattle.geometry.specs.Polygon.{placeHeld, normalizeCcw, polygonNew, geofenceNew};
+ghost use Rattle.geometry.specs.Polygon.{placeHeld, normalizeCcw, heldPolygon, polygonNew, geofenceNew};
 ghost use Rattle.geometry.specs.Distance.{ringOf, vertex, sideLength, sideLengths, edgeSignedDistanceBy, nearerSide, nearest, nearestBy, signedDistance, contains};
 use corners::FenceError;
 use corners::FenceResult;
@@ -80,7 +80,7 @@ fn normalize_ccw(pts: [Point2; 16], n: usize, ccw: bool) -> ConvexPolygon
     }
 }
 
-fn side_length(a: Point2, b: Point2) -> f32
+pub fn side_length(a: Point2, b: Point2) -> f32
     ensures { λ r. ⌜ r ≡ sideLength (a, b) ⌝ }
 {
     let ab_n = b.n - a.n;
@@ -179,6 +179,14 @@ impl ConvexPolygon {
             result: result,
             poly: poly,
         }
+    }
+
+    // Corners as they are held, where they were judged before.
+    pub fn held(pts: [Point2; 16], n: usize) -> ConvexPolygon
+        ensures { λ r. ⌜ r ≡ heldPolygon (take n pts) ⌝ }
+    {
+        let area = corners::area(pts, n);
+        normalize_ccw(pts, corners::capped(n), area > 0.0)
     }
 
     pub fn len(self) -> usize

@@ -11,7 +11,6 @@ use config::Config;
 use config::ConfigResult;
 use corners::FenceResult;
 use geometry::Geofence;
-use geometry::SideLengths;
 use supervisor::Supervisor;
 use words::Answer;
 
@@ -19,7 +18,6 @@ use words::Answer;
 struct Flight {
     cfg: Config,
     fence: Geofence,
-    lengths: SideLengths,
     supervisor: Supervisor,
 }
 
@@ -55,11 +53,9 @@ fn begin(args: &[u32; 97]) -> Answered {
     let new = Supervisor::new(cfg, fence);
     let valid = new.result;
     let fresh = new.supervisor;
-    let poly = fence.poly;
     let flight = Flight {
         cfg: cfg,
         fence: fence,
-        lengths: geometry::side_lengths(poly),
         supervisor: fresh,
     };
     Answered {
@@ -72,15 +68,13 @@ fn begin(args: &[u32; 97]) -> Answered {
 fn step(flight: Flight, args: &[u32; 97]) -> Answered {
     let cfg = flight.cfg;
     let fence = flight.fence;
-    let lengths = flight.lengths;
     let s = flight.supervisor;
-    let stepped = s.step_by(cfg, fence, lengths, telemetry::telemetry(args));
+    let stepped = s.step(cfg, fence, telemetry::telemetry(args));
     let next = stepped.supervisor;
     let d = stepped.decision;
     let after = Flight {
         cfg: cfg,
         fence: fence,
-        lengths: lengths,
         supervisor: next,
     };
     Answered {
@@ -145,11 +139,9 @@ fn next_row(flight: Flight) -> Row {
 fn no_flight() -> Flight {
     let made = config::default_fence();
     let fence = made.fence;
-    let poly = fence.poly;
     Flight {
         cfg: Config::default(),
         fence: fence,
-        lengths: geometry::side_lengths(poly),
         supervisor: Supervisor::fresh(),
     }
 }

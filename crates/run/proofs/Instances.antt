@@ -45,8 +45,13 @@ use Rattle.frame_decision.specs.DecisionFrame.{decisionFrame}
 use Rattle.flight.specs.Flight.{acceptFlight, refusedFlight, readFlight, stepFlight}
 use Rattle.frame_side.specs.SideFrame.{sideFrame}
 use Rattle.entries.specs.Entry.{stepAny, freshCall}
+use Rattle.corners.specs.OnceRound.{northSign, signChanges}
+use Rattle.areas.specs.Held.{areaFault}
+use Rattle.areas.specs.Clearance.{clearance}
+use Rattle.frame_areas.specs.AreaFrame.{cornersSent as areaCorners, areaRules, distanceAt}
+use Rattle.frame_areas.specs.AreasFrame.{bodies, heldIn, bodiesFit, countsFit, areasFrameFault, areasFault, bodiesOf, areasFrame, clearanceAt}
 use Rattle.run.specs.Run.{Call, stateBytes, Under, recordOfCalls, SameFlight}
-use Rattle.run.specs.Instances.{config, fence, slice, inFlight, blind, stepOn, stepWithSide, calls, line, RunInstance}
+use Rattle.run.specs.Instances.{config, fence, slice, inFlight, blind, crane, stepOn, stepWithSide, stepWithCrane, calls, line, lineWithCrane, RunInstance}
 use Rattle.run.proofs.Run.{one-flight-claim}
 
 -- ---- the telemetry is bytes
@@ -68,6 +73,8 @@ tested (b ∷ bs) e (suc k) = tested bs (both (ltb b 256) (below bs) e .1) k
 
 record AllBelow : Type 0 where
   blind-6100 : below (telemetryFrame (blind 6100)) ≡ true
+  flight-6060 : below (telemetryFrame (inFlight 6060 true)) ≡ true
+  flight-6050 : below (telemetryFrame (inFlight 6050 true)) ≡ true
   flight-6000 : below (telemetryFrame (inFlight 6000 true)) ≡ true
   flight-5999 : below (telemetryFrame (inFlight 5999 true)) ≡ true
   flight-1000 : below (telemetryFrame (inFlight 1000 true)) ≡ true
@@ -75,7 +82,7 @@ record AllBelow : Type 0 where
 
 all-below : AllBelow
 unfolding telemetryFrame telemetryCells statusCells chargeCells frameHead leBytes le8 le16 le32 leF32 leFlag ofBits toBits round neg inFlight blind
-all-below = record { blind-6100 = refl; flight-6000 = refl; flight-5999 = refl; flight-1000 = refl; flight-0 = refl }
+all-below = record { blind-6100 = refl; flight-6060 = refl; flight-6050 = refl; flight-6000 = refl; flight-5999 = refl; flight-1000 = refl; flight-0 = refl }
 
 -- ---- the premises
 
@@ -84,13 +91,16 @@ unfolding slice
 room = lit≤ tt
 
 -- a call without bytes is declined
-declines : (state : List ℕ) → stepAny false [] [] state [] [] .number ≡ 1
+declines : (state : List ℕ) → stepAny false [] [] state [] [] [] .number ≡ 1
 unfolding stepAny readFlight refusedFlight readConfig frameFault
 declines state = refl
 
 -- a call that steps, after others
 stepping-side : (t : Telemetry) (earlier : List Call) → below (telemetryFrame t) ≡ true → Under slice (SameFlight (readFlight config fence)) earlier → Under slice (SameFlight (readFlight config fence)) (stepWithSide t ∷ earlier)
 stepping-side t earlier b u = (tested (telemetryFrame t) b, (inr (refl, refl), u))
+
+stepping-crane : (t : Telemetry) (earlier : List Call) → below (telemetryFrame t) ≡ true → Under slice (SameFlight (readFlight config fence)) earlier → Under slice (SameFlight (readFlight config fence)) (stepWithCrane t ∷ earlier)
+stepping-crane t earlier b u = (tested (telemetryFrame t) b, (inr (refl, refl), u))
 
 stepping : (t : Telemetry) (earlier : List Call) → below (telemetryFrame t) ≡ true → Under slice (SameFlight (readFlight config fence)) earlier → Under slice (SameFlight (readFlight config fence)) (stepOn t ∷ earlier)
 stepping t earlier b u = (tested (telemetryFrame t) b, (inr (refl, refl), u))
@@ -101,9 +111,11 @@ first-two = stepping (inFlight 1000 true) (stepOn (inFlight 0 false) ∷ []) (al
 under : Under slice (SameFlight (readFlight config fence)) calls
 under =
     stepping (blind 6100) _ (all-below .blind-6100)
+    (stepping-side (inFlight 6060 true) _ (all-below .flight-6060)
+    (stepping-crane (inFlight 6050 true) _ (all-below .flight-6050)
     (stepping (inFlight 6000 true) _ (all-below .flight-6000)
     (stepping-side (inFlight 5999 true) _ (all-below .flight-5999)
-    (tested [] refl, (inl (λ z. eqb-false 1 0 refl (sym (declines _) ∙ z)), first-two))))
+    (tested [] refl, (inl (λ z. eqb-false 1 0 refl (sym (declines _) ∙ z)), first-two))))))
 
 -- ---- the bytes of configuration, fence, state, telemetry and output through every call
 
@@ -112,6 +124,8 @@ record Computed : Type 0 where
   record-is :
       recordOfCalls slice calls
       ≡ line (blind 6100) Action.Land
+      ∷ line (inFlight 6060 true) Action.Warn
+      ∷ lineWithCrane (inFlight 6050 true) Action.Warn
       ∷ line (inFlight 6000 true) Action.Nominal
       ∷ line (inFlight 5999 true) Action.ReturnToLaunch
       ∷ line (inFlight 1000 true) Action.ReturnToLaunch
@@ -119,7 +133,7 @@ record Computed : Type 0 where
       ∷ []
 
 computed : Computed
-unfolding add sub mul div neg lt le ofBits toBits ofInt round isNan config fence slice inFlight blind stateBytes recordOfCalls isFinite fabs isNegative fmax squareRoot setRequest higherRequest requestedAction altM horizontalDistHome wrappingSub age fresh holdMet cornerFault samePoint flatTurn cross2 mixedTurns areaTerm polygonArea polygonTests polygonNew geofenceNew sideLength edgeSignedDistanceBy signedDistance nearest nearestBy contains badCellCount badCapacity nonFiniteParam nonPositiveSpeed negativePower badThresholdOrder outsideDuration durationOutOfRange rtlAltOutsideFence checkConfig validateConfig defaultConfig rtlWh landWh rtlEnergyAt rtlEnergy withinPosition withinVelocity validatePositionSample validateGps validatePercent validateTelemetry freshBatteryPercent freshRemainingWh freshVoltage distanceBetween withinJump acceptSample applyGlitchFilter invalidInput stageRequest gcsStage gcsClearing gcsLink rcLink gps ekf fenceApproach fenceBreach altitudeMax altitudeMin fenceFamily staleBattery batteryWarn batteryLow batteryCritical battery energyMarginal energy heldSet holdPair freshTriggers families linkRequests fenceRequests batteryRequests requests nextTriggers update recover applyPersistence applyFeasibility arbitrate gateOpen holdFrom evaluate soundClock clockStep freshSupervisor sense decisionOf flown step u8At numberAt u16At u32At f32At flagAt byteBelow leBytes le8 le16 le32 leF32 leFlag frameHead frameFault frameWritten actionAt reasonAt leAction leReason zeros validOption optionU8At optionU32At leOptionU32 optionF32At vec3At leVec3 optionPositionAt leOptionPosition configAt readConfig freshnessCells linkCells fenceCells batteryCells energyCells flightCells configCells configFrame pointAt cornersAt cornerArray asksOnceRound fenceFault cornersSent readFence fenceRules fenceOf cornerCells sentCells fenceFrame timerAt triggersAt arbiterAt stateAt timersValid stateValid readState leTimer leLinks leFence leBattery leInput leTriggers leArbiter stateFrame fixAt landedAt optionGpsAt stampedF32At stampedBoolAt stampedLandedAt telemetryAt telemetryTests telemetryValid readTelemetry chargeCells statusCells telemetryCells telemetryFrame decisionFrame acceptFlight refusedFlight readFlight stepFlight stepAny sideFrame freshCall
+unfolding add sub mul div neg lt le ofBits toBits ofInt round isNan config fence slice inFlight blind stateBytes recordOfCalls isFinite fabs isNegative fmax squareRoot setRequest higherRequest requestedAction altM horizontalDistHome wrappingSub age fresh holdMet cornerFault samePoint flatTurn cross2 mixedTurns areaTerm polygonArea polygonTests polygonNew geofenceNew sideLength edgeSignedDistanceBy signedDistance nearest nearestBy contains badCellCount badCapacity nonFiniteParam nonPositiveSpeed negativePower badThresholdOrder outsideDuration durationOutOfRange rtlAltOutsideFence checkConfig validateConfig defaultConfig rtlWh landWh rtlEnergyAt rtlEnergy withinPosition withinVelocity validatePositionSample validateGps validatePercent validateTelemetry freshBatteryPercent freshRemainingWh freshVoltage distanceBetween withinJump acceptSample applyGlitchFilter invalidInput stageRequest gcsStage gcsClearing gcsLink rcLink gps ekf fenceApproach fenceBreach altitudeMax altitudeMin fenceFamily staleBattery batteryWarn batteryLow batteryCritical battery energyMarginal energy heldSet holdPair freshTriggers families linkRequests fenceRequests batteryRequests requests nextTriggers update recover applyPersistence applyFeasibility arbitrate gateOpen holdFrom evaluate soundClock clockStep freshSupervisor sense decisionOf flown step u8At numberAt u16At u32At f32At flagAt byteBelow leBytes le8 le16 le32 leF32 leFlag frameHead frameFault frameWritten actionAt reasonAt leAction leReason zeros validOption optionU8At optionU32At leOptionU32 optionF32At vec3At leVec3 optionPositionAt leOptionPosition configAt readConfig freshnessCells linkCells fenceCells batteryCells energyCells flightCells configCells configFrame pointAt cornersAt cornerArray asksOnceRound fenceFault cornersSent readFence fenceRules fenceOf cornerCells sentCells fenceFrame timerAt triggersAt arbiterAt stateAt timersValid stateValid readState leTimer leLinks leFence leBattery leInput leTriggers leArbiter stateFrame fixAt landedAt optionGpsAt stampedF32At stampedBoolAt stampedLandedAt telemetryAt telemetryTests telemetryValid readTelemetry chargeCells statusCells telemetryCells telemetryFrame decisionFrame acceptFlight refusedFlight readFlight stepFlight stepAny sideFrame freshCall signChanges northSign areaFault areaCorners areaRules distanceAt bodies heldIn bodiesFit countsFit areasFrameFault areasFault bodiesOf areasFrame crane clearance clearanceAt
 computed = record { accepted = refl; record-is = refl }
 
 pub run-instance : RunInstance

@@ -19,7 +19,7 @@ use Rattle.geometry.proofs.Lengths.{by-side-lengths}
 use Rattle.config.specs.declared.Config.{Config}
 use Rattle.supervisor.specs.declared.Supervisor.{Supervisor}
 use Rattle.supervisor.specs.declared.Stepped.{Stepped}
-use Rattle.supervisor.specs.Settings.{Site, Fed, baseSettings, fenceSite, fenceSiteBy, fedAt}
+use Rattle.supervisor.specs.Settings.{Site, Fed, baseSettings, fenceSite, fenceSiteBy, withAreas, fedAt}
 use Rattle.supervisor.specs.Step.{freshSupervisor, step}
 use Rattle.supervisor.specs.Rules.{Rules}
 use Rattle.supervisor.proofs.Rules.{either, fresh-rules, step-rules}
@@ -39,7 +39,7 @@ use Rattle.frame_decision.specs.DecisionFrame.{decisionFrame}
 use Rattle.frame_side.specs.SideFrame.{sideFrame}
 use Rattle.flight.specs.declared.Flight.{Flight}
 use Rattle.flight.specs.Flight.{acceptFlight, refusedFlight, afterConfig, readFlight, stepFlight}
-use Rattle.entries.specs.Entry.{StepCall, declined, outputFrame, outputSize, succeeded, written, afterTelemetry, afterState, afterFlight, stepAny, freshCall}
+use Rattle.entries.specs.Entry.{StepCall, declined, outputFrame, outputSize, succeeded, written, afterTelemetry, afterState, refusedFirst, afterFlight, stepAny, freshCall}
 use Rattle.entries.proofs.Declined.{declined-keeps}
 use Rattle.ladder.specs.Record.{Line, stateAfter, recordOf, stepsOf}
 use Rattle.ladder.specs.Claim.{ObeysAll}
@@ -70,11 +70,11 @@ flight-site config fence =
 
 -- ---- telemetry that is not refused is read, and an output that is not refused has room
 
-telemetry-read : (withSide : Bool) (f : Flight) (x : Supervisor) (s state output : List ℕ) → afterTelemetry withSide (readTelemetry s) f x state output .number ≡ 0 → readTelemetry s ≡ TelemetryRead.Frame (telemetryAt s)
+telemetry-read : (withSide : Bool) (f : Flight) (areas : List ℕ) (x : Supervisor) (s state output : List ℕ) → afterTelemetry withSide (readTelemetry s) f areas x state output .number ≡ 0 → readTelemetry s ≡ TelemetryRead.Frame (telemetryAt s)
 unfolding readTelemetry
-telemetry-read withSide f x s state output h = at (eqb (frameFault 3 104 s) 0) (telemetryValid s) refl h
+telemetry-read withSide f areas x s state output h = at (eqb (frameFault 3 104 s) 0) (telemetryValid s) refl h
   where
-    at : (a b : Bool) → eqb (frameFault 3 104 s) 0 ≡ a → afterTelemetry withSide (cond a (cond b (TelemetryRead.Frame (telemetryAt s)) (TelemetryRead.Refused 4)) (TelemetryRead.Refused (frameFault 3 104 s))) f x state output .number ≡ 0 → cond a (cond b (TelemetryRead.Frame (telemetryAt s)) (TelemetryRead.Refused 4)) (TelemetryRead.Refused (frameFault 3 104 s)) ≡ TelemetryRead.Frame (telemetryAt s)
+    at : (a b : Bool) → eqb (frameFault 3 104 s) 0 ≡ a → afterTelemetry withSide (cond a (cond b (TelemetryRead.Frame (telemetryAt s)) (TelemetryRead.Refused 4)) (TelemetryRead.Refused (frameFault 3 104 s))) f areas x state output .number ≡ 0 → cond a (cond b (TelemetryRead.Frame (telemetryAt s)) (TelemetryRead.Refused 4)) (TelemetryRead.Refused (frameFault 3 104 s)) ≡ TelemetryRead.Frame (telemetryAt s)
     at true true e z = refl
     at true false e z = absurd (eqb-false 4 0 refl z)
     at false b e z = absurd (eqb-false (frameFault 3 104 s) 0 e z)
@@ -105,12 +105,12 @@ begins slice h =
 
 -- ---- a call that steps
 
--- it has an accepted flight
-accepts : (c : Call) (state : List ℕ) → on c state .number ≡ 0 → flightOf c .refused ≡ 0
+-- it has an accepted flight, and accepted areas
+accepts : (c : Call) (state : List ℕ) → on c state .number ≡ 0 → refusedFirst (flightOf c) (c .areas) ≡ 0
 unfolding stepAny
-accepts c state z = at (eqb (flightOf c .refused) 0) refl z
+accepts c state z = at (eqb (refusedFirst (flightOf c) (c .areas)) 0) refl z
   where
-    at : (b : Bool) → eqb (flightOf c .refused) 0 ≡ b → cond b (afterState (c .withSide) (readState state) (flightOf c) state (c .telemetry) (c .output)) (declined (flightOf c .refused) state (c .output)) .number ≡ 0 → flightOf c .refused ≡ 0
+    at : (b : Bool) → eqb (refusedFirst (flightOf c) (c .areas)) 0 ≡ b → cond b (afterState (c .withSide) (readState state) (flightOf c) (c .areas) state (c .telemetry) (c .output)) (declined (refusedFirst (flightOf c) (c .areas)) state (c .output)) .number ≡ 0 → refusedFirst (flightOf c) (c .areas) ≡ 0
     at true e z = eqb-true _ _ e
     at false e z = z
 
@@ -122,13 +122,14 @@ stepped c x state r z =
     let telemetry = c .telemetry in
     let output = c .output in
     let f = flightOf c in
-    let next = stepFlight f x (telemetryAt telemetry) in
-    let a : afterFlight w f state telemetry output ≡ afterTelemetry w (readTelemetry telemetry) f x state output = rw (eq-eqb _ _ (accepts c state z)) (ap (λ (q : StateRead). afterState w q f state telemetry output) r) in
-    let b = telemetry-read w f x telemetry state output (sym (ap (λ (q : StepCall). q .number) a) ∙ z) in
-    let e : afterFlight w f state telemetry output ≡ written w next state output = a ∙ ap (λ (q : TelemetryRead). afterTelemetry w q f x state output) b in
+    let areas = c .areas in
+    let next = stepFlight f areas x (telemetryAt telemetry) in
+    let a : afterFlight w f areas state telemetry output ≡ afterTelemetry w (readTelemetry telemetry) f areas x state output = rw (eq-eqb _ _ (accepts c state z)) (ap (λ (q : StateRead). afterState w q f areas state telemetry output) r) in
+    let b = telemetry-read w f areas x telemetry state output (sym (ap (λ (q : StepCall). q .number) a) ∙ z) in
+    let e : afterFlight w f areas state telemetry output ≡ written w next state output = a ∙ ap (λ (q : TelemetryRead). afterTelemetry w q f areas x state output) b in
     e
     ∙ roomy w next state output (sym (ap (λ (q : StepCall). q .number) e) ∙ z)
-    ∙ ap (λ (site : Site). succeeded w (step (baseSettings (f .cfg)) x (fedAt site (telemetryAt telemetry))) output) (flight-site (c .config) (c .fence))
+    ∙ ap (λ (site : Site). succeeded w (step (baseSettings (f .cfg)) x (fedAt (withAreas areas site) (telemetryAt telemetry))) output) (flight-site (c .config) (c .fence))
 
 module _ (slice : List ℕ) (room : 186 ≤ length slice) (cfg : Config) where
   after : List Fed → Supervisor
@@ -155,7 +156,7 @@ module _ (slice : List ℕ) (room : 186 ≤ length slice) (cfg : Config) where
   next c earlier bytes under i = at (eqb (answered slice c earlier .number) 0) refl
     where
       at : (b : Bool) → eqb (answered slice c earlier .number) 0 ≡ b → Agrees (answered slice c earlier .state) (cond b (fedBy c ∷ fed slice earlier) (fed slice earlier)) (cond b (record { fed = fedBy c; action = shownAction (answered slice c earlier .output) } ∷ recordOfCalls slice earlier) (recordOfCalls slice earlier))
-      at false e = record { image = declined-keeps (c .withSide) (c .config) (c .fence) (stateBytes slice earlier) (c .telemetry) (c .output) e .0 ∙ i .image; typed = i .typed; rules = i .rules; record-is = i .record-is }
+      at false e = record { image = declined-keeps (c .withSide) (c .config) (c .fence) (stateBytes slice earlier) (c .telemetry) (c .output) (c .areas) e .0 ∙ i .image; typed = i .typed; rules = i .rules; record-is = i .record-is }
       at true e =
           let z = eqb-true (answered slice c earlier .number) 0 e in
           let one = ⊎-elim (λ n. absurd (n z)) (λ (o : flightOf c .cfg ≡ cfg). o) under in

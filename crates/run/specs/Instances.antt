@@ -16,13 +16,16 @@ use Rattle.types.specs.declared.OptionPositionSample.{OptionPositionSample}
 use Rattle.types.specs.declared.OptionStampedF32.{OptionStampedF32}
 use Rattle.types.specs.declared.OptionStampedBool.{OptionStampedBool}
 use Rattle.types.specs.declared.OptionStampedLandedState.{OptionStampedLandedState}
+use Rattle.types.specs.declared.Point2.{Point2}
 use Rattle.types.specs.declared.Telemetry.{Telemetry}
 use Rattle.config.specs.Default.{decimal, defaultConfig, defaultCorners}
 use Rattle.frame_config.specs.ConfigFrame.{configFrame}
-use Rattle.frame_fence.specs.FenceFrame.{fenceFrame}
+use Rattle.wire.specs.Cell.{bytesOf}
+use Rattle.frame_fence.specs.FenceFrame.{cornerCells, fenceFrame}
+use Rattle.frame_areas.specs.AreasFrame.{areasFrame}
 use Rattle.frame_telemetry.specs.TelemetryFrame.{telemetryFrame}
 use Rattle.ladder.specs.Record.{Line}
-use Rattle.supervisor.specs.Settings.{fenceSite, fedAt}
+use Rattle.supervisor.specs.Settings.{Site, fenceSite, withAreas, fedAt}
 use Rattle.flight.specs.Flight.{readFlight}
 use Rattle.run.specs.Run.{Call, Under, recordOfCalls, SameFlight, RunObeys}
 
@@ -78,19 +81,32 @@ blind now =
     }
 
 abbrev pub stepOn : Telemetry → Call
-stepOn t = record { withSide = false; config = config; fence = fence; telemetry = telemetryFrame t; output = replicate 95 0 }
+stepOn t = record { withSide = false; config = config; fence = fence; telemetry = telemetryFrame t; output = replicate 95 0; areas = [] }
 
 -- the same by the entry that writes the side
 abbrev pub stepWithSide : Telemetry → Call
-stepWithSide t = record { withSide = true; config = config; fence = fence; telemetry = telemetryFrame t; output = replicate 96 0 }
+stepWithSide t = record { withSide = true; config = config; fence = fence; telemetry = telemetryFrame t; output = replicate 96 0; areas = [] }
+
+-- the frame of one keep-out area, five metres north of home: a crane that is up
+abbrev pub at : ℕ → ℕ → Point2
+at north east = record { n = decimal north 1; e = decimal east 1 }
+
+unfoldable pub crane : List ℕ
+crane = areasFrame (record { number = 1; corners = 3 ∷ bytesOf (cornerCells (at 5 0 ∷ at 45 20 ∷ at 25 40 ∷ [])) } ∷ [])
+
+-- the same by the entry that takes areas
+abbrev pub stepWithCrane : Telemetry → Call
+stepWithCrane t = record { withSide = true; config = config; fence = fence; telemetry = telemetryFrame t; output = replicate 96 0; areas = crane }
 
 -- declined: every slice is empty
 abbrev pub empty : Call
-empty = record { withSide = false; config = []; fence = []; telemetry = []; output = [] }
+empty = record { withSide = false; config = []; fence = []; telemetry = []; output = []; areas = [] }
 
 abbrev pub calls : List Call
 calls =
     stepOn (blind 6100) ∷
+    stepWithSide (inFlight 6060 true) ∷
+    stepWithCrane (inFlight 6050 true) ∷
     stepOn (inFlight 6000 true) ∷
     stepWithSide (inFlight 5999 true) ∷
     empty ∷
@@ -98,18 +114,27 @@ calls =
     stepOn (inFlight 0 false) ∷
     []
 
+abbrev pub site : Site
+site = fenceSite (readFlight config fence .fence)
+
 abbrev pub line : Telemetry → Action → Line
-line t a = record { fed = fedAt (fenceSite (readFlight config fence .fence)) t; action = a }
+line t a = record { fed = fedAt site t; action = a }
+
+abbrev pub lineWithCrane : Telemetry → Action → Line
+lineWithCrane t a = record { fed = fedAt (withAreas crane site) t; action = a }
 
 pub record RunInstance : Type 0 where
   -- the premises of the claim
   pub room : 186 ≤ length slice
   pub accepted : readFlight config fence .refused ≡ 0
   pub under : Under slice (SameFlight (readFlight config fence)) calls
-  -- five steps: the pilot's link is lost at 0 and back from 1000, so Nominal is wanted from then on and shown 5000 ms later; at 6100 all readings are lost
+  -- seven steps: the pilot's link is lost at 0 and back from 1000, so Nominal is wanted from then on and shown 5000 ms later; at 6050 a crane is up, for
+  -- that step alone, and the warning stays at 6060; at 6100 all readings are lost
   pub record-is :
       recordOfCalls slice calls
       ≡ line (blind 6100) Action.Land
+      ∷ line (inFlight 6060 true) Action.Warn
+      ∷ lineWithCrane (inFlight 6050 true) Action.Warn
       ∷ line (inFlight 6000 true) Action.Nominal
       ∷ line (inFlight 5999 true) Action.ReturnToLaunch
       ∷ line (inFlight 1000 true) Action.ReturnToLaunch

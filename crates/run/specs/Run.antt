@@ -9,7 +9,7 @@ use lib.ListN.{length, take}
 use Rattle.types.specs.declared.Action.{Action}
 use Rattle.time.specs.Time.{wrapping}
 use Rattle.config.specs.declared.Config.{Config}
-use Rattle.supervisor.specs.Settings.{Fed, baseSettings, fenceSite, fedAt}
+use Rattle.supervisor.specs.Settings.{Fed, baseSettings, fenceSite, withAreas, fedAt}
 use Rattle.wire.specs.Fields.{Bytes}
 use Rattle.options.specs.Enums.{actionAt}
 use Rattle.frame_state.specs.declared.StateRead.{StateRead}
@@ -21,17 +21,18 @@ use Rattle.entries.specs.Entry.{StepCall, stepAny, freshCall}
 use Rattle.ladder.specs.Record.{Line, stateAfter, stepsOf}
 use Rattle.ladder.specs.Claim.{ObeysAll}
 
--- a call of a step entry: whether it is the one that writes the side, and what it is handed beside the state
+-- a call of a step entry: whether it is one that writes the side, and what it is handed beside the state; no areas where it takes none
 pub record Call : Type 0 where
   pub withSide : Bool
   pub config : List ℕ
   pub fence : List ℕ
   pub telemetry : List ℕ
   pub output : List ℕ
+  pub areas : List ℕ
 
 -- the call on a state: its number and buffers
 abbrev pub on : Call → List ℕ → StepCall
-on c state = stepAny (c .withSide) (c .config) (c .fence) state (c .telemetry) (c .output)
+on c state = stepAny (c .withSide) (c .config) (c .fence) state (c .telemetry) (c .output) (c .areas)
 
 -- the action that an output's Decision shows, read off its bytes: kinds 4 and 6 have it in one place
 abbrev pub shownAction : List ℕ → Action
@@ -41,9 +42,9 @@ shownAction output = actionAt output 4
 abbrev pub flightOf : Call → Flight
 flightOf c = readFlight (c .config) (c .fence)
 
--- "all it was fed but the state": its telemetry, and its own fence
+-- "all it was fed but the state": its telemetry, its own fence and its own keep-out areas
 abbrev pub fedBy : Call → Fed
-fedBy c = fedAt (fenceSite (flightOf c .fence)) (telemetryAt (c .telemetry))
+fedBy c = fedAt (withAreas (c .areas) (fenceSite (flightOf c .fence))) (telemetryAt (c .telemetry))
 
 -- a run begins with the state slice that is handed to the fresh entry
 module _ (slice : List ℕ) where
@@ -91,7 +92,7 @@ module _ (slice : List ℕ) where
     -- the state image is always accepted again: no run is declined for its own state
     pub accepted : readState (stateBytes calls) ≡ StateRead.Frame (stateAfter (baseSettings cfg) (fed calls))
 
--- "for every list": every state slice of at least a frame's 186 bytes, every configuration, every list of calls, each with its own fence, declined ones with any bytes among them
+-- "for every list": every state slice of at least a frame's 186 bytes, every configuration, every list of calls, each with its own fence and areas, declined ones with any bytes among them
 abbrev pub RunClaim : Type 0
 RunClaim = (slice : List ℕ) → 186 ≤ length slice → (cfg : Config) (calls : List Call) → UnderConfig slice cfg calls → RunObeys slice cfg calls
 

@@ -32,13 +32,13 @@ use Rattle.rings.proofs.Corner.{finite-number}
 use Rattle.rings.proofs.Unique.{plain-unique}
 use Rattle.rings.proofs.Fence.{eq-plain, plain-again, meet, fence-written-is-read, one-fence, fence-stays}
 use Rattle.frame_fence.specs.declared.FenceRead.{FenceRead}
-use Rattle.frame_fence.specs.FenceFrame.{pointAt, cornersAt, cornerArray, asksOnceRound, fenceFault, cornersSent, refusedFence, fenceSent, readFence, fenceRules, fenceOf, cornerCells, fenceCells, fenceFrame, writeFault, fenceWritten}
+use Rattle.frame_fence.specs.FenceFrame.{pointAt, cornersAt, cornerArray, asksOnceRound, fenceFault, cornersSent, refusedFence, fenceSent, readFence, fenceRules, fenceOf, fenceNumber, cornerCells, fenceCells, fenceFrame, writeFault, fenceWritten}
 use Rattle.frame_fence.proofs.Corners.{length-corners}
 use Rattle.frame_fence.proofs.Rules.{kind-asks}
 use Rattle.frame_fence.proofs.Rules as rules-of
 use Rattle.frame_fence.proofs.Bytes as bytes-of
 use Rattle.frame_fence_trips.proofs.Trips as trips
-use Rattle.spelling.specs.Spell.{headFault, resultNumber, inForm, judgedAgain, spelledFence, frameOf, numberFor, outputFor, spellNumber, spellOutput}
+use Rattle.spelling.specs.Spell.{headFault, inForm, judgedAgain, spelledFence, frameOf, numberFor, outputFor, spellNumber, spellOutput}
 use Rattle.spelling.specs.Claim.{Accepted, Same, formOf, WriteAlike, EqualBytes, RingKept, WrittenStays}
 
 -- ---- small things
@@ -260,7 +260,7 @@ ring-kept s c a =
     }
 
 -- ---- what 0 means
-number-ok : (r : FenceResult) → resultNumber r ≡ 0 → r ≡ FenceResult.Ok
+number-ok : (r : FenceResult) → fenceNumber r ≡ 0 → r ≡ FenceResult.Ok
 number-ok FenceResult.Ok h = refl
 number-ok (FenceResult.Err FenceError.TooFewVertices) h = absurd (omega arith)
 number-ok (FenceResult.Err FenceError.TooManyVertices) h = absurd (omega arith)
@@ -275,9 +275,9 @@ number-ok (FenceResult.Err FenceError.NotOnceRound) h = absurd (omega arith)
 
 declined-not : (t : FenceRead) → judgedAgain t .refused ≡ 0 → fenceOf t .result ≡ FenceResult.Ok
 unfolding judgedAgain refusedFence
-declined-not t h = by (eqb (resultNumber (fenceOf t .result)) 0) refl h
+declined-not t h = by (eqb (fenceNumber (fenceOf t .result)) 0) refl h
   where
-    by : (x : Bool) → eqb (resultNumber (fenceOf t .result)) 0 ≡ x → cond x t (refusedFence 39) .refused ≡ 0 → fenceOf t .result ≡ FenceResult.Ok
+    by : (x : Bool) → eqb (fenceNumber (fenceOf t .result)) 0 ≡ x → cond x t (refusedFence 39) .refused ≡ 0 → fenceOf t .result ≡ FenceResult.Ok
     by true p k = number-ok _ (eqb-true _ _ p)
     by false p k = absurd (omega arith)
 
@@ -287,10 +287,10 @@ record Spelled (s : List ℕ) : Type 0 where
 
 opened : (s : List ℕ) → spelledFence s .refused ≡ 0 → Spelled s
 unfolding spelledFence refusedFence
-opened s h = by (eqb (headFault s) 0) (eqb (resultNumber (fenceOf (readFence s) .result)) 0) refl refl h
+opened s h = by (eqb (headFault s) 0) (eqb (fenceNumber (fenceOf (readFence s) .result)) 0) refl refl h
   where
-    by : (x y : Bool) → eqb (headFault s) 0 ≡ x → eqb (resultNumber (fenceOf (readFence s) .result)) 0 ≡ y
-        → cond x (cond y (judgedAgain (inForm (readFence s))) (refusedFence (resultNumber (fenceOf (readFence s) .result)))) (refusedFence (headFault s)) .refused ≡ 0 → Spelled s
+    by : (x y : Bool) → eqb (headFault s) 0 ≡ x → eqb (fenceNumber (fenceOf (readFence s) .result)) 0 ≡ y
+        → cond x (cond y (judgedAgain (inForm (readFence s))) (refusedFence (fenceNumber (fenceOf (readFence s) .result)))) (refusedFence (headFault s)) .refused ≡ 0 → Spelled s
     by true true p q k = record { sound = record { head = eqb-true _ _ p; rules = number-ok _ (eqb-true _ _ q) }; judged = declined-not _ k }
     by true false p q k = absurd (eqb-false _ _ q k)
     by false y p q k = absurd (eqb-false _ _ p k)

@@ -6,20 +6,13 @@ use lib.Dec.{eqb}
 use lib.ListN.{take}
 use Rattle.wire.specs.Fields.{u8At}
 use Rattle.wire.specs.Frame.{frameFault}
-use Rattle.corners.specs.Acceptance.{fenceErrorNumber}
-use Rattle.corners.specs.declared.FenceResult.{FenceResult}
 use Rattle.rings.specs.Corner.{plainNumber, written}
 use Rattle.frame_fence.specs.declared.FenceRead.{FenceRead}
-use Rattle.frame_fence.specs.FenceFrame.{cornerArray, refusedFence, readFence, fenceOf, fenceFrame, writeFault, fenceWritten}
+use Rattle.frame_fence.specs.FenceFrame.{cornerArray, refusedFence, readFence, fenceOf, fenceNumber, fenceFrame, writeFault, fenceWritten}
 
 -- a kind 8 is due, and no kind 2
 unfoldable pub headFault : List ℕ → ℕ
 headFault s = frameFault 8 (11 + 8 * u8At s 4) s
-
--- the number of what the fence rules answer; 0 is accepted
-abbrev pub resultNumber : FenceResult → ℕ
-resultNumber FenceResult.Ok = 0
-resultNumber (FenceResult.Err e) = fenceErrorNumber e
 
 -- "in one form: starting at the corner with least north, then least east, going first to that one of its two neighbours with less north, then less east,
 -- and every −0 as 0, altitudes too"
@@ -36,13 +29,13 @@ inForm r =
 
 -- "Turned away: 39 where the frame so written would itself be declined under kind 8"
 unfoldable pub judgedAgain : FenceRead → FenceRead
-judgedAgain t = cond (eqb (resultNumber (fenceOf t .result)) 0) t (refusedFence 39)
+judgedAgain t = cond (eqb (fenceNumber (fenceOf t .result)) 0) t (refusedFence 39)
 
 -- the frame's faults, the fence rules, then 39; or the fence in the one form
 unfoldable pub spelledFence : List ℕ → FenceRead
 spelledFence s =
     let read = readFence s in
-    let rules = resultNumber (fenceOf read .result) in
+    let rules = fenceNumber (fenceOf read .result) in
     cond (eqb (headFault s) 0)
     (cond (eqb rules 0) (judgedAgain (inForm read)) (refusedFence rules))
     (refusedFence (headFault s))

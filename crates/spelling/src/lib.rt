@@ -2,7 +2,7 @@
 ghost use mathlib.Core.Path.{_≡_};
 ghost use Prim.Native.Nat.{_+_, _*_};
 ghost use Rattle.frame_fence.specs.FenceFrame.{fenceOf};
-ghost use Rattle.spelling.specs.Spell.{headFault, resultNumber, inForm, judgedAgain, spelledFence, spellNumber, spellOutput};
+ghost use Rattle.spelling.specs.Spell.{headFault, inForm, judgedAgain, spelledFence, spellNumber, spellOutput};
 use corners::FenceResult;
 use frame_fence::FenceRead;
 use geometry::ConvexPolygon;
@@ -21,15 +21,6 @@ fn head_fault(s: &[u8]) -> u16
 {
     let count = wire::u8_at(s, 4);
     wire::frame_fault(s, 8, length_due(count))
-}
-
-fn result_number(r: FenceResult) -> u16
-    ensures { λ n. ⌜ n ≡ resultNumber r ⌝ }
-{
-    match r {
-        FenceResult::Ok => 0,
-        FenceResult::Err(e) => e.number(),
-    }
 }
 
 // What the fence rules answer. No polygon is held: a step's own call of `fence_of` stays the only one, which the compiler then draws in.
@@ -72,7 +63,7 @@ fn judged_again(t: FenceRead) -> FenceRead
     ensures { λ r. ⌜ r ≡ judgedAgain t ⌝ }
 {
     let result = rules(t);
-    if result_number(result) == 0 {
+    if frame_fence::fence_number(result) == 0 {
         t
     } else {
         frame_fence::refused_fence(39)
@@ -89,7 +80,7 @@ pub fn spelled_fence(s: &[u8]) -> FenceRead
     }
     let read = frame_fence::read_fence(s);
     let result = rules(read);
-    let n = result_number(result);
+    let n = frame_fence::fence_number(result);
     if n != 0 {
         return frame_fence::refused_fence(n);
     }

@@ -40,6 +40,6 @@ none-left (suc turns) f input size p h =
     by true e next = eqb-true _ _ e
     by false e next = next (eqb-false _ _ e)
 
-pub enough : (f : Flight) (s : Supervisor) (input : List ℕ) (size : ℕ) → nextOf input size (flyFrames f s input size) ≡ 0
+pub enough : (f : Flight) (due : Due) (s : Supervisor) (areas input : List ℕ) (size : ℕ) → nextOf input size (flyFrames f due s areas input size) ≡ 0
 unfolding flyFrames
-enough f s input size = none-left (length input) f input size (nothingTaken s) (omega arith)
+enough f due s areas input size = none-left (length input) f input size (nothingTaken due s areas) (omega arith)

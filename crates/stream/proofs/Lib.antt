@@ -1,3 +1,4 @@
+pub mod Areas
 pub mod Enough
 pub mod Frames
 pub mod Room

@@ -1,6 +1,7 @@
 -- Document 01: "Program `decide` reads a kind 1, a kind 2, then kind 3 frames from standard input and writes one kind 4 frame a step. Where the
 -- input ends at a frame boundary, even before the first frame, it ends and writes no more; at the first refusal it writes one kind 255 frame
--- and ends." Document 02, L5: "Fences come as kind 8 too": `readFence` takes either. Assumes nothing.
+-- and ends." Document 02, L5: "Fences come as kind 8 too": `readFence` takes either. Document 02, L3, of keep-out areas, kind 13: "`decide` takes at most
+-- one before each kind 3, checked when read, which holds until the next one; before the first no area is held." Assumes nothing.
 use Prim.Native.Nat.{ℕ, zero, suc, _+_, _-_}
 use mathlib.Core.Bool.{Bool, true, false, _||_, cond}
 use mathlib.Core.List.{List, [], _++_}
@@ -9,10 +10,12 @@ use lib.ListN.{length, take, drop}
 use Rattle.config.specs.declared.Config.{Config}
 use Rattle.supervisor.specs.declared.Supervisor.{Supervisor}
 use Rattle.supervisor.specs.Step.{freshSupervisor}
+use Rattle.wire.specs.Fields.{u16At}
 use Rattle.wire.specs.Frame.{wholeFrame}
 use Rattle.frame_config.specs.declared.ConfigRead.{ConfigRead}
 use Rattle.frame_config.specs.ConfigFrame.{readConfig}
 use Rattle.frame_fence.specs.FenceFrame.{readFence}
+use Rattle.frame_areas.specs.AreasFrame.{areasFault}
 use Rattle.frame_telemetry.specs.declared.TelemetryRead.{TelemetryRead}
 use Rattle.frame_telemetry.specs.TelemetryFrame.{readTelemetry}
 use Rattle.frame_decision.specs.DecisionFrame.{decisionFrame}
@@ -26,20 +29,23 @@ use Rattle.stream.specs.declared.SetUp.{SetUp}
 use Rattle.stream.specs.declared.FrameAnswer.{FrameAnswer}
 use Rattle.stream.specs.declared.FramesAnswer.{FramesAnswer}
 
+-- up to the first kind 3: "before the first no area is held", so no byte of one is
 abbrev pub session : Due → Flight → Supervisor → Session
-session due f s = record { due = due; flight = f; supervisor = s }
+session due f s = record { due = due; flight = f; supervisor = s; areas = 0 }
 
--- whether a kind 1 or 2 is due, and whether a kind 3 is
+-- whether a kind 1 or 2 is due, and whether a kind 3 is, with or without a kind 13 before it
 abbrev pub inSetup : Due → Bool
 inSetup Due.Config = true
 inSetup Due.Fence = true
 inSetup Due.Telemetry = false
+inSetup Due.AfterAreas = false
 inSetup Due.Nothing = false
 
 abbrev pub inFlight : Due → Bool
 inFlight Due.Config = false
 inFlight Due.Fence = false
 inFlight Due.Telemetry = true
+inFlight Due.AfterAreas = true
 inFlight Due.Nothing = false
 
 -- how many bytes are put into a slice: all, or none where there is no room
@@ -99,6 +105,7 @@ abbrev pub byDue : Due → Session → List ℕ → Reply
 byDue Due.Config s frame = answerConfig frame
 byDue Due.Fence s frame = answerFence (s .flight .cfg) frame
 byDue Due.Telemetry s frame = silent s
+byDue Due.AfterAreas s frame = silent s
 byDue Due.Nothing s frame = silent s
 
 -- what a whole frame of kind 1 or 2 is answered with, where one is due
@@ -121,39 +128,63 @@ setUp s input out =
     let a = replySetup s input in
     record { session = a .after; taken = setupFrame (s .due) input; put = putCount (a .bytes) out }
 
--- ---- "then kind 3 frames"
+-- ---- "then kind 3 frames", with kind 13 frames between them
 
--- "writes one kind 4 frame a step", and "one kind 255 frame" for a refusal
-abbrev pub bytesFor : TelemetryRead → Flight → Supervisor → List ℕ
-bytesFor (TelemetryRead.Refused n) f s = refusalFrame n
-bytesFor (TelemetryRead.Frame t) f s = decisionFrame (stepFlight f s t .decision)
+-- after a frame: what is due, the supervisor, the areas held, as the bytes of their frame, and the bytes that are written
+pub record Flown : Type 0 where
+  pub due : Due
+  pub supervisor : Supervisor
+  pub areas : List ℕ
+  pub bytes : List ℕ
 
--- "at the first refusal it … ends": nothing is due then, else a kind 3 again
-abbrev pub dueAfter : TelemetryRead → Due
-dueAfter (TelemetryRead.Refused n) = Due.Nothing
-dueAfter (TelemetryRead.Frame t) = Due.Telemetry
+-- "writes one kind 4 frame a step": the step is taken with the areas held; "at the first refusal it writes one kind 255 frame and ends"
+abbrev pub afterTelemetry : TelemetryRead → Flight → Supervisor → List ℕ → Flown
+afterTelemetry (TelemetryRead.Refused n) f s areas = record { due = Due.Nothing; supervisor = s; areas = areas; bytes = refusalFrame n }
+afterTelemetry (TelemetryRead.Frame t) f s areas =
+    record {
+      due = Due.Telemetry;
+      supervisor = stepFlight f areas s t .supervisor;
+      areas = areas;
+      bytes = decisionFrame (stepFlight f areas s t .decision);
+    }
 
--- the supervisor of the step
-abbrev pub supervisorAfter : TelemetryRead → Flight → Supervisor → Supervisor
-supervisorAfter (TelemetryRead.Refused n) f s = s
-supervisorAfter (TelemetryRead.Frame t) f s = stepFlight f s t .supervisor
+-- "checked when read, which holds until the next one": an accepted kind 13 is what is held from then on, and nothing is written
+unfoldable pub afterAreas : Supervisor → List ℕ → List ℕ → Flown
+afterAreas s areas frame =
+    let n = areasFault frame in
+    cond (eqb n 0)
+    (record { due = Due.AfterAreas; supervisor = s; areas = frame; bytes = [] })
+    (record { due = Due.Nothing; supervisor = s; areas = areas; bytes = refusalFrame n })
 
--- what is due after a frame, the supervisor then, and how many of the bytes are put into a slice
-abbrev pub frameAnswer : TelemetryRead → Flight → Supervisor → List ℕ → FrameAnswer
-frameAnswer read f s out = record { due = dueAfter read; supervisor = supervisorAfter read f s; put = putCount (bytesFor read f s) out }
+-- "at most one before each kind 3": whether this is a kind 13 that is taken; after one a kind 3 alone is due
+abbrev pub takesAreas : Due → List ℕ → Bool
+takesAreas Due.Config frame = false
+takesAreas Due.Fence frame = false
+takesAreas Due.Telemetry frame = eqb (u16At frame 2) 13
+takesAreas Due.AfterAreas frame = false
+takesAreas Due.Nothing frame = false
 
--- ---- kind 3 frames, one after the other
+-- what a whole frame is answered with
+unfoldable pub answerFrame : Flight → Due → Supervisor → List ℕ → List ℕ → Flown
+answerFrame f due s areas frame = cond (takesAreas due frame) (afterAreas s areas frame) (afterTelemetry (readTelemetry frame) f s areas)
 
--- what is due, the supervisor, how many bytes of the input were taken, and the bytes written for them
+-- what is due then, the supervisor, how many bytes of areas are held, and how many of the bytes written are put into a slice
+abbrev pub frameAnswer : Flown → List ℕ → FrameAnswer
+frameAnswer a out = record { due = a .due; supervisor = a .supervisor; areas = length (a .areas); put = putCount (a .bytes) out }
+
+-- ---- these frames, one after the other
+
+-- what is due, the supervisor, the areas held, how many bytes of the input were taken, and the bytes written for them
 pub record Progress : Type 0 where
   pub due : Due
   pub supervisor : Supervisor
+  pub areas : List ℕ
   pub taken : ℕ
   pub written : List ℕ
 
 -- before the first of them
-abbrev pub nothingTaken : Supervisor → Progress
-nothingTaken s = record { due = Due.Telemetry; supervisor = s; taken = 0; written = [] }
+abbrev pub nothingTaken : Due → Supervisor → List ℕ → Progress
+nothingTaken due s areas = record { due = due; supervisor = s; areas = areas; taken = 0; written = [] }
 
 -- the bytes of the frame at the front of the input that is answered: 0, for none, where no kind 3 is due, where there is no room for one more answer, of 95
 -- bytes at most, and where no whole frame is there
@@ -167,13 +198,8 @@ nextOf input size p = nextFrame (p .due) (drop (p .taken) input) (size - length 
 -- that frame, of n bytes, is answered: its bytes follow the ones before
 unfoldable pub answerNext : Flight → List ℕ → ℕ → Progress → Progress
 answerNext f input n p =
-    let read = readTelemetry (take n (drop (p .taken) input)) in
-    record {
-      due = dueAfter read;
-      supervisor = supervisorAfter read f (p .supervisor);
-      taken = p .taken + n;
-      written = p .written ++ bytesFor read f (p .supervisor);
-    }
+    let a = answerFrame f (p .due) (p .supervisor) (p .areas) (take n (drop (p .taken) input)) in
+    record { due = a .due; supervisor = a .supervisor; areas = a .areas; taken = p .taken + n; written = p .written ++ a .bytes }
 
 -- "then kind 3 frames": frames from the front of the input, as long as there is a next one, and no more than so many
 unfoldable pub answerFrames : ℕ → Flight → List ℕ → ℕ → Progress → Progress
@@ -183,16 +209,16 @@ answerFrames (suc turns) f input size p =
     cond (eqb n 0) p (answerFrames turns f input size (answerNext f input n p))
 
 -- every frame that there is: a frame has at least two bytes, so as many turns as there are bytes are enough (proofs/Enough.antt)
-unfoldable pub flyFrames : Flight → Supervisor → List ℕ → ℕ → Progress
-flyFrames f s input size = answerFrames (length input) f input size (nothingTaken s)
+unfoldable pub flyFrames : Flight → Due → Supervisor → List ℕ → List ℕ → ℕ → Progress
+flyFrames f due s areas input size = answerFrames (length input) f input size (nothingTaken due s areas)
 
--- what is due then, the supervisor, how many bytes were taken, and how many were written
+-- what is due then, the supervisor, how many bytes of areas are held, how many bytes were taken, and how many were written
 abbrev pub framesAnswer : Progress → FramesAnswer
-framesAnswer p = record { due = p .due; supervisor = p .supervisor; taken = p .taken; put = length (p .written) }
+framesAnswer p = record { due = p .due; supervisor = p .supervisor; areas = length (p .areas); taken = p .taken; put = length (p .written) }
 
--- how far it is, where the bytes written so far are the first of the output
-abbrev pub progress : FramesAnswer → List ℕ → Progress
-progress p out = record { due = p .due; supervisor = p .supervisor; taken = p .taken; written = take (p .put) out }
+-- how far it is, where the bytes written so far are the first of the output, and the areas held the first of their slice
+abbrev pub progress : FramesAnswer → List ℕ → List ℕ → Progress
+progress p out held = record { due = p .due; supervisor = p .supervisor; areas = take (p .areas) held; taken = p .taken; written = take (p .put) out }
 
 -- ---- the end
 

@@ -2,12 +2,12 @@
 ghost use mathlib.Core.Path.{_≡_};
 ghost use mathlib.Core.List.{List};
 ghost use Prim.Native.Nat.{ℕ, _+_, _≤_};
-ghost use lib.ListN.{length, drop};
+ghost use lib.ListN.{length, take, drop};
 ghost use Rattle.wire.specs.Frame.{frameWritten};
 ghost use Rattle.frame_decision.specs.DecisionFrame.{decisionFrame};
 ghost use Rattle.frame_refusal.specs.RefusalFrame.{refusalFrame};
 ghost use Rattle.frame_telemetry.specs.TelemetryFrame.{readTelemetry};
-ghost use Rattle.stream.specs.Stream.{begin, silent, refusal, flying, withConfig, answerConfig, answerFence, answerSetup, answered, setupFrame, replySetup, setUp, putCount, bytesFor, frameAnswer, nextFrame, nextOf, answerNext, flyFrames, framesAnswer, progress, inSetup, inFlight, endBytes};
+ghost use Rattle.stream.specs.Stream.{begin, silent, refusal, flying, withConfig, answerConfig, answerFence, answerSetup, answered, setupFrame, replySetup, setUp, putCount, afterTelemetry, afterAreas, takesAreas, answerFrame, frameAnswer, nextFrame, nextOf, answerNext, flyFrames, framesAnswer, progress, inSetup, inFlight, endBytes};
 use config::Config;
 use flight::Flight;
 use frame_config::ConfigRead;
@@ -15,18 +15,22 @@ use frame_telemetry::TelemetryRead;
 use supervisor::Supervisor;
 use types::Decision;
 
-// The frame that is due: a kind 1, a kind 2, then kind 3 frames; after a refusal nothing.
+// The frame that is due: a kind 1, a kind 2 or 8, then a kind 3 or a kind 13 before it, and after a kind 13 a kind 3 alone; after
+// a refusal nothing.
 pub enum Due {
     Config,
     Fence,
     Telemetry,
+    AfterAreas,
     Nothing,
 }
 
+// `areas` is how many bytes of keep-out areas are held, in a slice that the caller keeps.
 pub struct Session {
     pub due: Due,
     pub flight: Flight,
     pub supervisor: Supervisor,
+    pub areas: usize,
 }
 
 // The session after a frame of kind 1 or 2, and how many bytes were put.
@@ -42,17 +46,19 @@ pub struct SetUp {
     pub put: usize,
 }
 
-// What is due after a frame of kind 3, the supervisor then, and how many bytes were put.
+// What is due after a frame of kind 3 or 13, the supervisor then, how many bytes of areas are held, and how many bytes were put.
 struct FrameAnswer {
     due: Due,
     supervisor: Supervisor,
+    areas: usize,
     put: usize,
 }
 
-// What is due after frames of kind 3, the supervisor then, how many bytes of the input were taken, and how many were put.
+// The same after several frames, with how many bytes of the input were taken.
 pub struct FramesAnswer {
     pub due: Due,
     pub supervisor: Supervisor,
+    pub areas: usize,
     pub taken: usize,
     pub put: usize,
 }
@@ -65,11 +71,12 @@ pub fn in_setup(due: Due) -> bool
         Due::Config => true,
         Due::Fence => true,
         Due::Telemetry => false,
+        Due::AfterAreas => false,
         Due::Nothing => false,
     }
 }
 
-// Whether a kind 3 is due.
+// Whether a kind 3 is due, with or without a kind 13 before it.
 pub fn in_flight(due: Due) -> bool
     ensures { λ r. ⌜ r ≡ inFlight due ⌝ }
 {
@@ -77,6 +84,7 @@ pub fn in_flight(due: Due) -> bool
         Due::Config => false,
         Due::Fence => false,
         Due::Telemetry => true,
+        Due::AfterAreas => true,
         Due::Nothing => false,
     }
 }
@@ -127,6 +135,7 @@ fn refusal(n: u16, out: &mut [u8]) -> Answer
         due: Due::Nothing,
         flight: flight::refused_flight(n),
         supervisor: Supervisor::fresh(),
+        areas: 0,
     };
     Answer {
         session: session,
@@ -142,6 +151,7 @@ pub fn begin() -> Session
         due: Due::Config,
         flight: flight::refused_flight(0),
         supervisor: Supervisor::fresh(),
+        areas: 0,
     }
 }
 
@@ -161,6 +171,7 @@ fn with_config(cfg: Config) -> Session
         due: Due::Fence,
         flight: held,
         supervisor: Supervisor::fresh(),
+        areas: 0,
     }
 }
 
@@ -181,6 +192,7 @@ fn flying(f: Flight) -> Session
         due: Due::Telemetry,
         flight: f,
         supervisor: Supervisor::fresh(),
+        areas: 0,
     }
 }
 
@@ -214,6 +226,7 @@ fn answer_setup(session: Session, frame: &[u8], out: &mut [u8]) -> Answer
         Due::Config => answer_config(frame, out),
         Due::Fence => answer_fence(cfg, frame, out),
         Due::Telemetry => silent(session),
+        Due::AfterAreas => silent(session),
         Due::Nothing => silent(session),
     }
 }
@@ -253,29 +266,99 @@ pub fn set_up(session: Session, input: &[u8], out: &mut [u8]) -> SetUp
     }
 }
 
-// ---- kind 3 frames
+// ---- kind 3 frames, and kind 13 frames between them
 
-// One whole frame of kind 3. The flight is handed in anew each time, so that a loop over frames copies only the supervisor.
-fn fly_frame(f: Flight, s: Supervisor, frame: &[u8], out: &mut [u8]) -> FrameAnswer
-    ensures { λ r. ⌜ r ≡ frameAnswer (readTelemetry (now (frame .entry))) f s (now (out .entry)) ⌝ }
-    ensures { λ _. ⌜ now (out .exit) ≡ frameWritten (bytesFor (readTelemetry (now (frame .entry))) f s) (now (out .entry)) ⌝ }
+// One whole frame of kind 3, with the keep-out areas held. The flight is handed in anew each time, so that a loop over frames
+// copies only the supervisor.
+fn step_frame(f: Flight, s: Supervisor, areas: &[u8], frame: &[u8], out: &mut [u8]) -> FrameAnswer
+    ensures { λ r. ⌜ r ≡ frameAnswer (afterTelemetry (readTelemetry (now (frame .entry))) f s (now (areas .entry))) (now (out .entry)) ⌝ }
+    ensures { λ _. ⌜ now (out .exit) ≡ frameWritten (afterTelemetry (readTelemetry (now (frame .entry))) f s (now (areas .entry)) .bytes) (now (out .entry)) ⌝ }
 {
     match frame_telemetry::read_telemetry(frame) {
         TelemetryRead::Refused(n) => FrameAnswer {
             due: Due::Nothing,
             supervisor: s,
+            areas: areas.len(),
             put: put_refusal(n, out),
         },
         TelemetryRead::Frame(t) => {
-            let next = flight::step_flight(f, s, t);
+            let next = flight::step_flight(f, areas, s, t);
             let after = next.supervisor;
             let d = next.decision;
             FrameAnswer {
                 due: Due::Telemetry,
                 supervisor: after,
+                areas: areas.len(),
                 put: put_decision(d, out),
             }
         }
+    }
+}
+
+// One whole frame of kind 13: where it is accepted, it is held in the place of the one before.
+fn hold_areas(
+    s: Supervisor,
+    areas: usize,
+    frame: &[u8],
+    out: &mut [u8],
+    held: &mut [u8],
+) -> FrameAnswer
+    requires { ⌜ areas ≤ 1045 ⌝ }
+    requires { ⌜ 1045 ≤ length (now held) ⌝ }
+    ensures { λ r. ⌜ r ≡ frameAnswer (afterAreas s (take areas (now (held .entry))) (now (frame .entry))) (now (out .entry)) ⌝ }
+    ensures { λ _. ⌜ now (out .exit) ≡ frameWritten (afterAreas s (take areas (now (held .entry))) (now (frame .entry)) .bytes) (now (out .entry)) ⌝ }
+    ensures { λ r. ⌜ take (r .areas) (now (held .exit)) ≡ afterAreas s (take areas (now (held .entry))) (now (frame .entry)) .areas ⌝ }
+{
+    let fault = frame_areas::areas_fault(frame);
+    if fault == 0 {
+        return FrameAnswer {
+            due: Due::AfterAreas,
+            supervisor: s,
+            areas: bytes::copy(frame, held),
+            put: 0,
+        };
+    }
+    FrameAnswer {
+        due: Due::Nothing,
+        supervisor: s,
+        areas: areas,
+        put: put_refusal(fault, out),
+    }
+}
+
+// Whether the frame is a kind 13 that is taken: before each kind 3 at most one is.
+fn takes_areas(due: Due, frame: &[u8]) -> bool
+    ensures { λ r. ⌜ r ≡ takesAreas due (now (frame .entry)) ⌝ }
+{
+    match due {
+        Due::Config => false,
+        Due::Fence => false,
+        Due::Telemetry => wire::u16_at(frame, 2) == 13,
+        Due::AfterAreas => false,
+        Due::Nothing => false,
+    }
+}
+
+// One whole frame of kind 3 or 13. The areas held are the first bytes of `held`.
+fn fly_frame(
+    f: Flight,
+    due: Due,
+    s: Supervisor,
+    areas: usize,
+    frame: &[u8],
+    out: &mut [u8],
+    held: &mut [u8],
+) -> FrameAnswer
+    requires { ⌜ areas ≤ 1045 ⌝ }
+    requires { ⌜ 1045 ≤ length (now held) ⌝ }
+    ensures { λ r. ⌜ r ≡ frameAnswer (answerFrame f due s (take areas (now (held .entry))) (now (frame .entry))) (now (out .entry)) ⌝ }
+    ensures { λ _. ⌜ now (out .exit) ≡ frameWritten (answerFrame f due s (take areas (now (held .entry))) (now (frame .entry)) .bytes) (now (out .entry)) ⌝ }
+    ensures { λ r. ⌜ take (r .areas) (now (held .exit)) ≡ answerFrame f due s (take areas (now (held .entry))) (now (frame .entry)) .areas ⌝ }
+{
+    if takes_areas(due, frame) {
+        hold_areas(s, areas, frame, out, held)
+    } else {
+        step_frame(f, s, &held[..areas], frame, out)
     }
 }
 
@@ -300,7 +383,7 @@ fn next_frame(due: Due, input: &[u8], room: usize) -> usize
 fn next_of(p: FramesAnswer, input: &[u8], out: &[u8]) -> usize
     requires { ⌜ p .taken ≤ length (now input) ⌝ }
     requires { ⌜ p .put ≤ length (now out) ⌝ }
-    ensures { λ r. ⌜ r ≡ nextOf (now (input .entry)) (length (now (out .entry))) (progress p (now (out .entry))) ⌝ }
+    ensures { λ r. ⌜ ((held : List ℕ) → r ≡ nextOf (now (input .entry)) (length (now (out .entry))) (progress p (now (out .entry)) held)) ⌝ }
     ensures { λ r. ⌜ p .taken + r ≤ length (now (input .entry)) ⌝ }
 {
     let due = p.due;
@@ -310,43 +393,76 @@ fn next_of(p: FramesAnswer, input: &[u8], out: &[u8]) -> usize
 }
 
 // Answers the next frame, which has n bytes.
-fn fly_next(f: Flight, p: FramesAnswer, n: usize, input: &[u8], out: &mut [u8]) -> FramesAnswer
+fn fly_next(
+    f: Flight,
+    p: FramesAnswer,
+    n: usize,
+    input: &[u8],
+    out: &mut [u8],
+    held: &mut [u8],
+) -> FramesAnswer
     requires { ⌜ p .taken + n ≤ length (now input) ⌝ }
     requires { ⌜ p .put + 95 ≤ length (now out) ⌝ }
-    ensures { λ r. ⌜ progress r (now (out .exit)) ≡ answerNext f (now (input .entry)) n (progress p (now (out .entry))) ⌝ }
+    requires { ⌜ p .areas ≤ 1045 ⌝ }
+    requires { ⌜ 1045 ≤ length (now held) ⌝ }
+    ensures { λ r. ⌜ progress r (now (out .exit)) (now (held .exit)) ≡ answerNext f (now (input .entry)) n (progress p (now (out .entry)) (now (held .entry))) ⌝ }
     ensures { λ r. ⌜ drop (r .put) (now (out .exit)) ≡ drop (r .put) (now (out .entry)) ⌝ }
-    ensures { λ r. ⌜ (r .taken ≤ length (now (input .entry))) × (p .put ≤ r .put) × (r .put ≤ length (now (out .exit))) ⌝ }
+    ensures { λ r. ⌜ (r .taken ≤ length (now (input .entry))) × (p .put ≤ r .put) × (r .put ≤ length (now (out .exit))) × (r .areas ≤ 1045) ⌝ }
 {
+    let due = p.due;
     let s = p.supervisor;
     let taken = p.taken;
     let put = p.put;
     let end = taken + n;
-    let a = fly_frame(f, s, &input[taken..end], &mut out[put..]);
-    let due = a.due;
+    let a = fly_frame(
+        f,
+        due,
+        s,
+        p.areas,
+        &input[taken..end],
+        &mut out[put..],
+        held,
+    );
+    let next = a.due;
     let after = a.supervisor;
     FramesAnswer {
-        due: due,
+        due: next,
         supervisor: after,
+        areas: a.areas,
         taken: end,
         put: put + a.put,
     }
 }
 
-// Answers the frames of kind 3 from the front of the input, as long as one is due, whole, and out has room for its answer.
-pub fn fly_frames(f: Flight, s: Supervisor, input: &[u8], out: &mut [u8]) -> FramesAnswer
-    ensures { λ r. ⌜ r ≡ framesAnswer (flyFrames f s (now (input .entry)) (length (now (out .entry)))) ⌝ }
-    ensures { λ _. ⌜ now (out .exit) ≡ frameWritten (flyFrames f s (now (input .entry)) (length (now (out .entry))) .written) (now (out .entry)) ⌝ }
+// Answers the frames of kinds 3 and 13 from the front of the input, as long as one is due, whole, and out has room for its answer. The
+// areas held are the first bytes of `held`, which has room for the longest frame of them.
+pub fn fly_frames(
+    f: Flight,
+    due: Due,
+    s: Supervisor,
+    areas: usize,
+    input: &[u8],
+    out: &mut [u8],
+    held: &mut [u8],
+) -> FramesAnswer
+    requires { ⌜ areas ≤ 1045 ⌝ }
+    requires { ⌜ 1045 ≤ length (now held) ⌝ }
+    ensures { λ r. ⌜ r ≡ framesAnswer (flyFrames f due s (take areas (now (held .entry))) (now (input .entry)) (length (now (out .entry)))) ⌝ }
+    ensures { λ _. ⌜ now (out .exit) ≡ frameWritten (flyFrames f due s (take areas (now (held .entry))) (now (input .entry)) (length (now (out .entry))) .written) (now (out .entry)) ⌝ }
+    ensures { λ r. ⌜ take (r .areas) (now (held .exit)) ≡ flyFrames f due s (take areas (now (held .entry))) (now (input .entry)) (length (now (out .entry))) .areas ⌝ }
+    ensures { λ r. ⌜ r .areas ≤ 1045 ⌝ }
 {
     let mut p = FramesAnswer {
-        due: Due::Telemetry,
+        due: due,
         supervisor: s,
+        areas: areas,
         taken: 0,
         put: 0,
     };
     let mut n = next_of(p, input, out);
     let mut turns = input.len();
     while turns > 0 && n > 0 {
-        p = fly_next(f, p, n, input, out);
+        p = fly_next(f, p, n, input, out, held);
         n = next_of(p, input, out);
         turns -= 1;
     }

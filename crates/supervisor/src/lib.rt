@@ -2,7 +2,8 @@
 ghost use mathlib.Core.Path.{_≡_};
 ghost use Rattle.time.specs.Time.{wrapping};
 ghost use Rattle.geometry.specs.Distance.{ringOf, nearestBy};
-ghost use Rattle.supervisor.specs.Settings.{baseSettings, fenceSite, fenceSiteBy, fedAt};
+ghost use Rattle.frame_areas.specs.AreasFrame.{clearanceAt};
+ghost use Rattle.supervisor.specs.Settings.{baseSettings, fenceSite, fenceSiteBy, withAreas, fedAt};
 ghost use Rattle.supervisor.specs.Clock.{clockFault, soundClock, clockStep};
 ghost use Rattle.supervisor.specs.Step.{freshSupervisor, supervisorNew, placeOf, validPlace, marginAt, energyAt, distOf, sideOf, sense, disarmedDecision, disarmed, decisionOf, flown, glitchAfter, triggersAfter, arbiterAfter, step};
 use arbiter::ArbiterState;
@@ -154,15 +155,22 @@ pub struct Sensed {
     pub side: u8,
 }
 
-fn place_of(pos: OptionPositionSample, poly: ConvexPolygon, lengths: SideLengths) -> OptionPlace
-    ensures { λ r. ⌜ r ≡ placeOf (nearestBy (ringOf poly) (lengths .m)) pos ⌝ }
+// The distance is the clearance: from the fence, and from the keep-out areas.
+fn place_of(
+    pos: OptionPositionSample,
+    poly: ConvexPolygon,
+    lengths: SideLengths,
+    areas: &[u8],
+) -> OptionPlace
+    ensures { λ r. ⌜ r ≡ placeOf (λ p. clearanceAt (now (areas .entry)) (nearestBy (ringOf poly) (lengths .m) p) p) pos ⌝ }
 {
     match pos {
         OptionPositionSample::Some(s) => {
             let p = s.pos;
             let pt = Point2 { n: p.n, e: p.e };
+            let fence = geometry::nearest_by(poly, lengths, pt);
             OptionPlace::Some(Place {
-                fence: geometry::nearest_by(poly, lengths, pt),
+                fence: frame_areas::clearance(areas, fence, pt),
                 home_dist_m: p.horizontal_dist_home(),
                 alt_m: p.alt_m(),
             })
@@ -230,9 +238,10 @@ fn sense(
     cfg: Config,
     fence: Geofence,
     lengths: SideLengths,
+    areas: &[u8],
     fault: bool,
 ) -> Sensed
-    ensures { λ r. ⌜ r ≡ sense (baseSettings cfg) (fenceSiteBy fence lengths) triggers glitch t invalid fault ⌝ }
+    ensures { λ r. ⌜ r ≡ sense (baseSettings cfg) (withAreas (now (areas .entry)) (fenceSiteBy fence lengths)) triggers glitch t invalid fault ⌝ }
 {
     let now = t.now_ms;
     let sample = t.position;
@@ -249,7 +258,7 @@ fn sense(
         cfg.battery_fresh_ms,
         cfg.usable_capacity_wh,
     );
-    let place = place_of(pos, poly, lengths);
+    let place = place_of(pos, poly, lengths, areas);
     let estimate = energy_at(cfg, place, remaining);
     let margin_wh = estimate.margin_wh;
     let margin = margin_at(place, margin_wh);
@@ -440,15 +449,16 @@ impl Supervisor {
         }
     }
 
-    // One step, with the lengths of the fence's sides given.
+    // One step, with the lengths of the fence's sides given, and the frame of the keep-out areas.
     pub fn step_by(
         self,
         cfg: Config,
         fence: Geofence,
         lengths: SideLengths,
+        areas: &[u8],
         raw: Telemetry,
     ) -> Stepped
-        ensures { λ r. ⌜ r ≡ step (baseSettings cfg) self (fedAt (fenceSiteBy fence lengths) raw) ⌝ }
+        ensures { λ r. ⌜ r ≡ step (baseSettings cfg) self (fedAt (withAreas (now (areas .entry)) (fenceSiteBy fence lengths)) raw) ⌝ }
     {
         let last_now = self.last_now;
         let triggers = self.triggers;
@@ -471,15 +481,27 @@ impl Supervisor {
         }
         let tr = triggers_after(clock.third, triggers);
         let ar = arbiter_after(clock.third, arbiter);
-        let sensed = sense(tr, g, t, v.invalid_input, cfg, fence, lengths, clock.fault);
+        let sensed = sense(
+            tr,
+            g,
+            t,
+            v.invalid_input,
+            cfg,
+            fence,
+            lengths,
+            areas,
+            clock.fault,
+        );
         flown(sensed, ar, gate, clock, t, cfg)
     }
 
+    // Document 01's step: no area is held.
     pub fn step(self, cfg: Config, fence: Geofence, raw: Telemetry) -> Stepped
         ensures { λ r. ⌜ r ≡ step (baseSettings cfg) self (fedAt (fenceSite fence) raw) ⌝ }
     {
         let poly = fence.poly;
         let lengths = geometry::side_lengths(poly);
-        self.step_by(cfg, fence, lengths, raw)
+        let none = [0u8; 0];
+        self.step_by(cfg, fence, lengths, &none, raw)
     }
 }

@@ -1,10 +1,12 @@
 //! How long a step takes: the port's entry, the plain Rust entry, and `Supervisor::step` alone, on the same
-//! frames, in rounds that take turns; frames read and written anew; then `decide` beside the Rust program on one stream.
+//! frames, in rounds that take turns; a step beside areas; frames read and written anew; then `decide` beside the Rust program
+//! on one stream.
 //!   bench [PORT_DECIDE RUST_DECIDE STREAM]
 //! Nothing here passes or fails.
 
 #[cfg(not(feature = "standin"))]
 mod again;
+mod areas;
 mod clock;
 mod parts;
 mod programs;
@@ -14,8 +16,8 @@ use std::hint::black_box;
 use failsafe_core::{Supervisor, Telemetry};
 use flights::{Both, Pilot, Setup, fence_frame};
 use frames::{
-    CONFIG, STATE_FRAME, TELEMETRY, TELEMETRY_FRAME, fence_core, fresh_entry, put_frame,
-    read_fence, read_frame, step_entry,
+    CONFIG, SIDE_FRAME, STATE_FRAME, TELEMETRY, TELEMETRY_FRAME, fence_core, fresh_entry,
+    put_frame, read_fence, read_frame, step_entry,
 };
 use random::Random;
 
@@ -62,7 +64,7 @@ fn through(
 ) {
     for flight in flights {
         let mut state = [0; STATE_FRAME];
-        let mut output = [0; 95];
+        let mut output = [0; SIDE_FRAME];
         fresh(&mut state);
         for frame in &flight.frames {
             let number = step(
@@ -103,6 +105,22 @@ pub fn ratio(a: [f64; 2], b: [f64; 2]) -> [f64; 2] {
     [a[0] / b[0], a[1] / b[1]]
 }
 
+/// Nanoseconds for each step, of sides that fly all flights and take turns.
+fn rounds<const N: usize>(sides: [&dyn Fn(); N]) -> [[f64; 2]; N] {
+    let mut times = [const { Vec::new() }; N];
+    for round in 0..ROUNDS + 1 {
+        for turn in 0..N {
+            let k = (round + turn) % N;
+            let ns = clock::ns(sides[k]) / (FLIGHTS * STEPS) as f64;
+            // The first round warms up.
+            if round > 0 {
+                times[k].push(ns);
+            }
+        }
+    }
+    times.map(summary)
+}
+
 /// Times the entries, and hands the flights on.
 fn entries(what: &str, setup: &Setup) -> Vec<Flight> {
     let mut random = Random::new(7);
@@ -116,18 +134,7 @@ fn entries(what: &str, setup: &Setup) -> Vec<Flight> {
         }),
         ("Supervisor::step", &|| alone(&flights)),
     ];
-    let mut times = [const { Vec::new() }; 3];
-    for round in 0..ROUNDS + 1 {
-        for turn in 0..3 {
-            let k = (round + turn) % 3;
-            let ns = clock::ns(sides[k].1) / (FLIGHTS * STEPS) as f64;
-            // The first round warms up.
-            if round > 0 {
-                times[k].push(ns);
-            }
-        }
-    }
-    let [port, rust, step] = times.map(summary);
+    let [port, rust, step] = rounds(sides.map(|(_, side)| side));
     println!("{what}: ns for each step; median and least of {ROUNDS} rounds");
     for ((name, _), ns) in sides.iter().zip([port, rust, step]) {
         tell(name, ns, 1);
@@ -136,6 +143,7 @@ fn entries(what: &str, setup: &Setup) -> Vec<Flight> {
     tell("failsafe_step / Supervisor::step", ratio(port, step), 3);
     tell("plain Rust entry / Supervisor::step", ratio(rust, step), 3);
     parts::parts(&flights[0]);
+    areas::areas(&flights);
     flights
 }
 

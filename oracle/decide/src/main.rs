@@ -1,23 +1,50 @@
-//! Document 01's program `decide` in plain Rust: reads a kind 1, a kind 2, then kind 3 frames, and writes one
-//! kind 4 frame a step; at the first refusal one kind 255 frame. It reads and writes in blocks, and writes what
-//! it has before it waits for more.
+//! Document 01's program `decide` in plain Rust: reads a kind 1, a kind 2 or 8, then kind 3 frames, each with at most one
+//! kind 13 before it, and writes one kind 4 frame a step; at the first refusal one kind 255 frame. It reads and writes in
+//! blocks, and writes what it has before it waits for more. It steps the Rust with its fields public, since areas stand in
+//! for a fence (oracle/frames); oracle/flights and oracle/areas hold that build to the Rust as it is.
 
 use std::io::{Read, Write};
 
-use failsafe_core::{Config, Supervisor, Telemetry};
+use failsafe_open::{Config, Decision, Supervisor, Telemetry};
 use frames::{
-    CONFIG, DECISION, DECISION_FRAME, REFUSAL_FRAME, TELEMETRY, TRUNCATED, config_error_core,
-    fence_core, put_frame, put_refusal, read_fence, read_frame,
+    AREAS, Areas, CONFIG, DECISION, DECISION_FRAME, REFUSAL_FRAME, TELEMETRY, TRUNCATED,
+    config_error_open, fence_open, put_frame, put_refusal, read_areas, read_fence, read_frame,
+    step_clear,
 };
 
 /// The longest frame.
 const LONGEST: usize = 2 + 65_535;
 const BLOCK: usize = 1 << 16;
 
+/// A flight under way: the areas held, and whether they came with the last frame.
+struct Flight {
+    supervisor: Supervisor,
+    areas: Areas,
+    areas_last: bool,
+}
+
+impl Flight {
+    /// Areas where they are due; else telemetry is.
+    fn take(&mut self, frame: &[u8]) -> Result<Option<Decision>, u32> {
+        if !self.areas_last && frame.get(2..4) == Some(&AREAS.to_le_bytes()) {
+            self.areas = read_areas(frame)?;
+            self.areas_last = true;
+            return Ok(None);
+        }
+        let raw: Telemetry = read_frame(TELEMETRY, frame)?;
+        self.areas_last = false;
+        Ok(Some(if self.areas.is_empty() {
+            self.supervisor.step(&raw)
+        } else {
+            step_clear(&mut self.supervisor, &self.areas, &raw).0
+        }))
+    }
+}
+
 enum Due {
     Config,
     Fence(Box<Config>),
-    Telemetry(Box<Supervisor>),
+    Telemetry(Box<Flight>),
 }
 
 impl Due {
@@ -29,15 +56,21 @@ impl Due {
                 Ok(false)
             }
             Due::Fence(cfg) => {
-                let fence = fence_core(&read_fence(frame)?)?;
-                let new = Supervisor::new(**cfg, fence).map_err(config_error_core)?;
-                *self = Due::Telemetry(Box::new(new));
+                let fence = fence_open(&read_fence(frame)?)?;
+                let supervisor = Supervisor::new(**cfg, fence).map_err(config_error_open)?;
+                *self = Due::Telemetry(Box::new(Flight {
+                    supervisor,
+                    areas: Areas::default(),
+                    areas_last: false,
+                }));
                 Ok(false)
             }
-            Due::Telemetry(supervisor) => {
-                let raw: Telemetry = read_frame(TELEMETRY, frame)?;
-                put_frame(DECISION, &supervisor.step(&raw), to);
-                Ok(true)
+            Due::Telemetry(flight) => {
+                let decision = flight.take(frame)?;
+                if let Some(decision) = &decision {
+                    put_frame(DECISION, decision, to);
+                }
+                Ok(decision.is_some())
             }
         }
     }

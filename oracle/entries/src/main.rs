@@ -4,14 +4,12 @@
 //! steps that many times in flights that seek the boundaries, with declined calls and states of all kinds
 //! among them. Exit status 1: something differs, or something was not passed through.
 
-mod buffers;
-
-use buffers::{Call, Sides};
 use flights::{Both, Coverage, Pilot, Setup, break_config, break_fence, damage, once_round, star};
 use frames::{
     CONFIG, DECISION, STATE, STATE_FRAME, State, TELEMETRY, TELEMETRY_FRAME, put_frame, read_fence,
     read_frame,
 };
+use port::{Call, Entry, Sides};
 use random::Random;
 
 struct Driver {
@@ -54,8 +52,9 @@ impl Driver {
             let t = pilot.next(&mut self.random, &setup, &old);
             call.telemetry = vec![0; TELEMETRY_FRAME];
             put_frame(TELEMETRY, &t, &mut call.telemetry);
-            call.with_side = self.random.chance(3);
-            let room = 95 + call.with_side as usize + self.random.below(3) * 20;
+            let with_side = self.random.chance(3);
+            call.entry = if with_side { Entry::Side } else { Entry::Plain };
+            let room = 95 + with_side as usize + self.random.below(3) * 20;
             call.output = (0..room).map(|k| k as u8 ^ 0x5A).collect();
             if self.random.chance(3) {
                 self.decline(&call)?;
@@ -67,7 +66,7 @@ impl Driver {
             let number = self.sides.step(&mut call)?;
             assert_eq!(number, 0, "the Rust's entry declined a step of a flight");
             let mut shown = call.output.clone();
-            if call.with_side {
+            if with_side {
                 let side = shown.remove(94);
                 self.coverage.add("side", format!("{side}"));
                 shown[..4].copy_from_slice(&decision[..4]);
@@ -275,7 +274,7 @@ fn main() {
     println!("seed {seed}, {steps} steps");
     let mut driver = Driver {
         random: Random::new(seed),
-        sides: Sides::new(),
+        sides: Sides::default(),
         coverage: Coverage::default(),
         declined: 0,
         several: 0,

@@ -1,4 +1,4 @@
-//! The bodies of kinds 1 to 4, 8 and 255. Fields stand in the Rust's declared order.
+//! The bodies of kinds 1 to 4, 8 and 255 (areas.rs has 7 and 13). Fields stand in the Rust's declared order.
 
 use crate::bytes::{Field, NO_ROOM, body, numbered, put_frame, record};
 
@@ -188,6 +188,18 @@ fn fence_kind(once_round: bool) -> u16 {
 }
 
 impl Corners {
+    #[inline]
+    pub fn read(count: u8, bytes: &[u8]) -> Self {
+        let mut at = [(0.0, 0.0); 16];
+        for (corner, bytes) in at.iter_mut().zip(bytes.chunks_exact(8)) {
+            *corner = (real(bytes, 0), real(bytes, 4));
+        }
+        Corners {
+            count: count as usize,
+            at,
+        }
+    }
+
     /// How often the north steps of the sides change their sign, going round. Document 02's rule for kind 8,
     /// which the Rust has not.
     fn sign_changes(&self) -> usize {
@@ -207,16 +219,11 @@ pub fn read_fence(frame: &[u8]) -> Result<FenceSent, u32> {
         body.first()
             .is_some_and(|&count| body.len() == 9 + 8 * count as usize)
     })?;
-    let count = body[0] as usize;
-    let mut at = [(0.0, 0.0); 16];
-    for (corner, bytes) in at.iter_mut().zip(body[9..].chunks_exact(8)) {
-        *corner = (real(bytes, 0), real(bytes, 4));
-    }
     Ok(FenceSent {
         once_round,
         min_alt_m: real(body, 1),
         max_alt_m: real(body, 5),
-        corners: Corners { count, at },
+        corners: Corners::read(body[0], &body[9..]),
     })
 }
 
@@ -239,44 +246,54 @@ pub fn write_fence(fence: &FenceSent, to: &mut [u8]) -> Result<usize, u32> {
     Ok(length)
 }
 
-/// The fence rules of one build of the Rust: the fence, or 10 to 18; for kind 8 also 33, after 16 and before 17.
+/// 10 to 18 of one build of the Rust: a polygon's rules, with `once_round` also 33, after 16 and before 17; and a fence's.
 macro_rules! fence_rules {
-    ($name:ident, $rust:ident) => {
-        #[inline]
-        pub fn $name(sent: &FenceSent) -> Result<$rust::Geofence, u32> {
+    ($polygon:ident, $fence:ident, $error:ident, $rust:ident) => {
+        fn $error(error: $rust::FenceError) -> u32 {
             use $rust::FenceError::*;
+            match error {
+                TooFewVertices => 10,
+                TooManyVertices => 11,
+                NonFinite => 12,
+                OutOfEnvelope => 13,
+                DuplicateVertex => 14,
+                CollinearEdge => 15,
+                NotConvex => 16,
+                AreaTooSmall => 17,
+                BadAltitudes => 18,
+            }
+        }
+
+        #[inline]
+        pub fn $polygon(corners: &Corners, once_round: bool) -> Result<$rust::ConvexPolygon, u32> {
+            use $rust::FenceError::{AreaTooSmall, TooManyVertices};
             let mut points = [$rust::Point2 { n: 0.0, e: 0.0 }; 16];
-            for (point, corner) in points.iter_mut().zip(&sent.corners.at) {
+            for (point, corner) in points.iter_mut().zip(&corners.at) {
                 *point = $rust::Point2 {
                     n: corner.0,
                     e: corner.1,
                 };
             }
-            let made = match points.get(..sent.corners.count) {
+            let made = match points.get(..corners.count) {
                 Some(points) => $rust::ConvexPolygon::new(points),
                 None => Err(TooManyVertices),
             };
             let turns_fit = matches!(made, Ok(_) | Err(AreaTooSmall));
-            if sent.once_round && turns_fit && sent.corners.sign_changes() > 2 {
+            if once_round && turns_fit && corners.sign_changes() > 2 {
                 return Err(33);
             }
-            made.and_then(|poly| $rust::Geofence::new(poly, sent.min_alt_m, sent.max_alt_m))
-                .map_err(|error| match error {
-                    TooFewVertices => 10,
-                    TooManyVertices => 11,
-                    NonFinite => 12,
-                    OutOfEnvelope => 13,
-                    DuplicateVertex => 14,
-                    CollinearEdge => 15,
-                    NotConvex => 16,
-                    AreaTooSmall => 17,
-                    BadAltitudes => 18,
-                })
+            made.map_err($error)
+        }
+
+        #[inline]
+        pub fn $fence(sent: &FenceSent) -> Result<$rust::Geofence, u32> {
+            let poly = $polygon(&sent.corners, sent.once_round)?;
+            $rust::Geofence::new(poly, sent.min_alt_m, sent.max_alt_m).map_err($error)
         }
     };
 }
-fence_rules!(fence_core, failsafe_core);
-fence_rules!(fence_open, failsafe_open);
+fence_rules!(polygon_core, fence_core, error_core, failsafe_core);
+fence_rules!(polygon_open, fence_open, error_open, failsafe_open);
 
 /// A kind 255 frame.
 pub fn put_refusal(number: u32, to: &mut [u8]) {

@@ -2,6 +2,7 @@
 
 use failsafe_open as rust;
 
+use crate::areas::{read_areas, step_clear};
 use crate::bytes::{NO_ROOM, put_frame, read_frame, write_frame};
 use crate::codec::{CONFIG, DECISION, STATE, TELEMETRY, fence_open, read_fence};
 use crate::side::{put_side, side_of};
@@ -31,11 +32,17 @@ macro_rules! config_error {
 config_error!(config_error_core, failsafe_core);
 config_error!(config_error_open, failsafe_open);
 
-/// Configuration frame, fence frame, fence rules, configuration rules, state, telemetry, output. `with_side` is
-/// whether kind 6 is written.
+/// What a step writes: kind 4, or kind 6, or kind 6 beside the areas of a frame.
+enum Form<'a> {
+    Plain,
+    Side,
+    Areas(&'a [u8]),
+}
+
+/// Configuration frame, fence frame, fence rules, configuration rules, areas, state, telemetry, output.
 #[inline]
 fn step(
-    with_side: bool,
+    form: Form,
     config: &[u8],
     fence: &[u8],
     state: &mut [u8],
@@ -46,23 +53,35 @@ fn step(
     let sent = read_fence(fence)?;
     let fence = fence_open(&sent)?;
     rust::validate_config(&cfg, &fence).map_err(config_error_open)?;
+    let (room, areas) = match form {
+        Form::Plain => (DECISION_FRAME, None),
+        Form::Side => (SIDE_FRAME, None),
+        Form::Areas(frame) => (SIDE_FRAME, Some(read_areas(frame)?)),
+    };
     let held = State::read_frame(state)?;
     let raw: rust::Telemetry = read_frame(TELEMETRY, telemetry)?;
-    if output.len()
-        < if with_side {
-            SIDE_FRAME
-        } else {
-            DECISION_FRAME
-        }
-    {
+    if output.len() < room {
         return Err(NO_ROOM);
     }
     let mut supervisor = held.with(cfg, fence);
-    let decision = supervisor.step(&raw);
+    let (decision, side) = match areas {
+        Some(areas) => {
+            let (decision, side) = step_clear(&mut supervisor, &areas, &raw);
+            (decision, Some(side))
+        }
+        None => {
+            let decision = supervisor.step(&raw);
+            let shown = room == SIDE_FRAME;
+            (
+                decision,
+                shown.then(|| side_of(&supervisor.fence, &raw, &decision)),
+            )
+        }
+    };
     put_frame(STATE, &State::of(&supervisor), state);
     put_frame(DECISION, &decision, output);
-    if with_side {
-        put_side(side_of(&supervisor.fence, &raw, &decision), output);
+    if let Some(side) = side {
+        put_side(side, output);
     }
     Ok(())
 }
@@ -75,10 +94,8 @@ pub fn step_entry(
     telemetry: &[u8],
     output: &mut [u8],
 ) -> u32 {
-    match step(false, config, fence, state, telemetry, output) {
-        Ok(()) => 0,
-        Err(number) => number,
-    }
+    let done = step(Form::Plain, config, fence, state, telemetry, output);
+    done.err().unwrap_or(0)
 }
 
 /// The same with kind 6.
@@ -89,10 +106,21 @@ pub fn step_side_entry(
     telemetry: &[u8],
     output: &mut [u8],
 ) -> u32 {
-    match step(true, config, fence, state, telemetry, output) {
-        Ok(()) => 0,
-        Err(number) => number,
-    }
+    let done = step(Form::Side, config, fence, state, telemetry, output);
+    done.err().unwrap_or(0)
+}
+
+/// The same with kind 6 beside areas.
+pub fn step_areas_entry(
+    config: &[u8],
+    fence: &[u8],
+    state: &mut [u8],
+    telemetry: &[u8],
+    output: &mut [u8],
+    areas: &[u8],
+) -> u32 {
+    let done = step(Form::Areas(areas), config, fence, state, telemetry, output);
+    done.err().unwrap_or(0)
 }
 
 /// Writes a fresh state into the first 186 bytes; later bytes stay.

@@ -1,15 +1,20 @@
-//! The frames of document 01 in plain Rust, over the Rust's own types, with nothing on the heap; and the
-//! two entries over them, to hold the port's entries to.
+//! The frames of document 01, and of document 02's sides and areas, in plain Rust, over the Rust's own types, with nothing
+//! on the heap; and the entries over them, to hold the port's entries to.
 //!
 //! The frames are there for both builds of the Rust: failsafe-core, which is the source as it is, and
 //! failsafe-open, the same source with its fields public, without which no state can be read or written.
 
+mod areas;
 mod bytes;
 mod codec;
 mod entry;
 mod side;
 mod state;
 
+pub use areas::{
+    AREA, AREA_SIDE, AREAS, AREAS_HELD, Areas, Clearance, add_area_entry, read_areas,
+    remove_area_entry, step_clear,
+};
 pub use bytes::{
     BAD_LENGTH, BAD_VALUE, Field, NO_ROOM, QUIET_NAN, TRUNCATED, WRONG_KIND, body, put_frame,
     read_frame, write_frame,
@@ -18,7 +23,10 @@ pub use codec::{
     CONFIG, Corners, DECISION, FENCE, FENCE_ONCE_ROUND, FenceSent, REFUSAL, STATE, TELEMETRY,
     fence_core, fence_open, put_refusal, read_fence, write_fence,
 };
-pub use entry::{config_error_core, config_error_open, fresh_entry, step_entry, step_side_entry};
+pub use entry::{
+    config_error_core, config_error_open, fresh_entry, step_areas_entry, step_entry,
+    step_side_entry,
+};
 pub use side::{DECISION_SIDE, put_side, side_of};
 pub use state::State;
 

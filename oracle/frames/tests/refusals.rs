@@ -1,6 +1,8 @@
-//! Document 01's table of refusals and its order, case by case, of the plain Rust entries.
+//! Document 01's table of refusals and its order, case by case, of the plain Rust entries; and document 02's of areas.
 
-use frames::{DECISION_FRAME, STATE_FRAME, fresh_entry, put_frame, step_entry};
+use frames::{
+    DECISION_FRAME, SIDE_FRAME, STATE_FRAME, fresh_entry, put_frame, step_areas_entry, step_entry,
+};
 
 #[derive(Clone)]
 struct Call {
@@ -9,6 +11,7 @@ struct Call {
     state: Vec<u8>,
     telemetry: Vec<u8>,
     output: Vec<u8>,
+    areas: Vec<u8>,
 }
 
 /// The defaults, a fresh state, an all-absent telemetry at 0.
@@ -31,28 +34,67 @@ fn sound() -> Call {
         state,
         telemetry,
         output: vec![0xEE; 100],
+        areas: areas(&[(3, yard(100.0)), (9, yard(200.0))]),
     }
+}
+
+/// A square of 20 m, whose nearest side is that far north.
+fn yard(north: f32) -> Vec<(f32, f32)> {
+    let far = north + 20.0;
+    vec![(north, -10.0), (north, 10.0), (far, 10.0), (far, -10.0)]
+}
+
+/// A frame of areas: number and corners of each.
+fn areas(all: &[(u8, Vec<(f32, f32)>)]) -> Vec<u8> {
+    let mut frame = vec![0, 0, 13, 0, all.len() as u8];
+    for (number, corners) in all {
+        frame.extend([*number, corners.len() as u8]);
+        for (n, e) in corners {
+            frame.extend(n.to_le_bytes());
+            frame.extend(e.to_le_bytes());
+        }
+    }
+    let length = (frame.len() - 2) as u16;
+    frame[..2].copy_from_slice(&length.to_le_bytes());
+    frame
 }
 
 /// The number for a sound call after a change; a declined call leaves state and output.
 fn number(change: impl Fn(&mut Call)) -> u32 {
+    judged(change, DECISION_FRAME, |c| {
+        step_entry(
+            &c.config,
+            &c.fence,
+            &mut c.state,
+            &c.telemetry,
+            &mut c.output,
+        )
+    })
+}
+
+/// The same of the entry with areas.
+fn number_beside(change: impl Fn(&mut Call)) -> u32 {
+    judged(change, SIDE_FRAME, |c| {
+        step_areas_entry(
+            &c.config,
+            &c.fence,
+            &mut c.state,
+            &c.telemetry,
+            &mut c.output,
+            &c.areas,
+        )
+    })
+}
+
+fn judged(change: impl Fn(&mut Call), written: usize, entry: fn(&mut Call) -> u32) -> u32 {
     let mut call = sound();
     change(&mut call);
     let given = call.clone();
-    let number = step_entry(
-        &call.config,
-        &call.fence,
-        &mut call.state,
-        &call.telemetry,
-        &mut call.output,
-    );
+    let number = entry(&mut call);
     if number != 0 {
         assert_eq!((&call.state, &call.output), (&given.state, &given.output));
     } else {
-        assert_eq!(
-            call.output[DECISION_FRAME..],
-            given.output[DECISION_FRAME..]
-        );
+        assert_eq!(call.output[written..], given.output[written..]);
     }
     number
 }
@@ -164,32 +206,101 @@ fn fences_of_kind_8() {
 }
 
 #[test]
-fn across_frames() {
-    let bad_config = |c: &mut Call| c.config[9] = 2;
-    let bad_fence = |c: &mut Call| c.fence[2] = 9;
-    let bad_rules = |c: &mut Call| c.fence[8] = 0x7F;
-    let bad_cells = |c: &mut Call| c.config[4] = 0;
-    let bad_state = |c: &mut Call| c.state[0] = 0;
-    let bad_telemetry = |c: &mut Call| c.telemetry[1] = 9;
-    let bad_output = |c: &mut Call| c.output.truncate(94);
-    let changes: [(&dyn Fn(&mut Call), u32); 7] = [
-        (&bad_config, 4),
-        (&bad_fence, 2),
-        (&bad_rules, 18),
-        (&bad_cells, 25),
-        (&bad_state, 3),
-        (&bad_telemetry, 1),
-        (&bad_output, 5),
+fn frames_of_areas() {
+    assert_eq!(number_beside(|_| {}), 0);
+    // No byte, and a count of 0, are no area.
+    assert_eq!(number_beside(|c| c.areas.clear()), 0);
+    assert_eq!(number_beside(|c| c.areas = vec![3, 0, 13, 0, 0]), 0);
+    assert_eq!(number_beside(|c| c.areas.truncate(1)), 1);
+    assert_eq!(number_beside(|c| c.areas[0] += 1), 1);
+    assert_eq!(number_beside(|c| c.areas[..2].copy_from_slice(&[1, 0])), 3);
+    assert_eq!(number_beside(|c| c.areas[2] = 7), 2);
+    assert_eq!(number_beside(|c| c.areas.push(0)), 3);
+    // Counts that don't fit the length, before any body is judged: number 0 is 31.
+    assert_eq!(number_beside(|c| c.areas = vec![2, 0, 13, 0]), 3);
+    assert_eq!(number_beside(|c| c.areas = vec![4, 0, 13, 0, 0, 0]), 3);
+    for count in [0, 1, 3, 255] {
+        assert_eq!(number_beside(|c| (c.areas[4], c.areas[5]) = (count, 0)), 3);
+    }
+    assert_eq!(number_beside(|c| (c.areas[6], c.areas[5]) = (5, 0)), 3);
+    assert_eq!(number_beside(|c| c.areas[5] = 0), 31);
+}
+
+#[test]
+fn areas_one_by_one() {
+    let answer = |all: &[(u8, Vec<(f32, f32)>)]| number_beside(|c| c.areas = areas(all));
+    let (far, inside) = (yard(100.0), yard(-1.0));
+    let star = vec![
+        (300.0, 0.0),
+        (-200.0, 200.0),
+        (100.0, -300.0),
+        (100.0, 300.0),
+        (-200.0, -200.0),
     ];
-    for (k, (first, wanted)) in changes.iter().enumerate() {
-        for (later, _) in &changes[k..] {
+    let small = vec![(100.0, 0.0), (100.0, 9.0), (109.0, 0.0)];
+    // Home on a side is outside.
+    assert_eq!(answer(&[(1, yard(0.0))]), 0);
+    assert_eq!(answer(&[(1, inside.clone())]), 32);
+    assert_eq!(answer(&[(1, star.clone())]), 33);
+    assert_eq!(answer(&[(0, star.clone())]), 33);
+    assert_eq!(answer(&[(0, small)]), 17);
+    assert_eq!(answer(&[(0, inside.clone())]), 31);
+    assert_eq!(answer(&[(1, vec![]), (0, far.clone())]), 10);
+    assert_eq!(answer(&[(1, vec![(0.0, 0.0); 17])]), 11);
+    // A number not above the one before; the faults of earlier bodies first.
+    assert_eq!(answer(&[(2, far.clone()), (2, far.clone())]), 31);
+    assert_eq!(answer(&[(2, far.clone()), (1, inside.clone())]), 31);
+    assert_eq!(answer(&[(2, inside.clone()), (1, star.clone())]), 32);
+    // A ninth, in its turn.
+    let mut nine: Vec<_> = (1..10).map(|number| (number, far.clone())).collect();
+    assert_eq!(answer(&nine[..8]), 0);
+    assert_eq!(answer(&nine), 30);
+    nine[8].1 = inside;
+    assert_eq!(answer(&nine), 30);
+    nine[8].0 = 8;
+    assert_eq!(answer(&nine), 31);
+    nine[8].1 = star;
+    assert_eq!(answer(&nine), 33);
+}
+
+/// A change that makes a fault, and the number that it earns.
+type Fault<'a> = (&'a dyn Fn(&mut Call), u32);
+
+/// Of any two faults the one that stands first here is answered.
+fn in_this_order(faults: &[Fault], number: impl Fn(&dyn Fn(&mut Call)) -> u32) {
+    for (k, (first, wanted)) in faults.iter().enumerate() {
+        for (later, _) in &faults[k..] {
             let both = |c: &mut Call| {
                 later(c);
                 first(c);
             };
-            assert_eq!(number(both), *wanted, "fault {k} comes first");
+            assert_eq!(number(&both), *wanted, "fault {k} comes first");
         }
     }
+}
+
+#[test]
+fn across_frames() {
+    let before: [Fault; 4] = [
+        (&|c| c.config[9] = 2, 4),
+        (&|c| c.fence[2] = 9, 2),
+        (&|c| c.fence[8] = 0x7F, 18),
+        (&|c| c.config[4] = 0, 25),
+    ];
+    let areas: [Fault; 3] = [
+        (&|c| c.areas[2] = 7, 2),
+        (&|c| c.areas[10] = 0x7F, 12),
+        (&|c| c.areas[39] = 3, 31),
+    ];
+    let after: [Fault; 3] = [
+        (&|c| c.state[0] = 0, 3),
+        (&|c| c.telemetry[1] = 9, 1),
+        (&|c| c.output.truncate(94), 5),
+    ];
+    in_this_order(&[&before[..], &after].concat(), |change| number(change));
+    in_this_order(&[&before[..], &areas, &after].concat(), |change| {
+        number_beside(change)
+    });
 }
 
 #[test]

@@ -1,8 +1,11 @@
 //! The port's entries, as C sees them: linked from libfailsafe.a, or, with the feature `standin`, played by the
-//! plain Rust entries.
+//! plain Rust entries; and both sides' calls on the same bytes.
 
+mod sides;
 #[cfg(feature = "standin")]
 mod standin;
+
+pub use sides::{Call, Entry, Sides};
 
 unsafe extern "C" {
     fn failsafe_step(
@@ -26,6 +29,35 @@ unsafe extern "C" {
         state_len: usize,
         telemetry: *const u8,
         telemetry_len: usize,
+        output: *mut u8,
+        output_len: usize,
+    ) -> u32;
+    fn failsafe_step_areas(
+        config: *const u8,
+        config_len: usize,
+        fence: *const u8,
+        fence_len: usize,
+        state: *mut u8,
+        state_len: usize,
+        telemetry: *const u8,
+        telemetry_len: usize,
+        output: *mut u8,
+        output_len: usize,
+        areas: *const u8,
+        areas_len: usize,
+    ) -> u32;
+    fn failsafe_add_area(
+        areas: *const u8,
+        areas_len: usize,
+        area: *const u8,
+        area_len: usize,
+        output: *mut u8,
+        output_len: usize,
+    ) -> u32;
+    fn failsafe_remove_area(
+        areas: *const u8,
+        areas_len: usize,
+        number: u8,
         output: *mut u8,
         output_len: usize,
     ) -> u32;
@@ -89,6 +121,60 @@ pub fn step_side(
             state.len(),
             telemetry.as_ptr(),
             telemetry.len(),
+            output.as_mut_ptr(),
+            output.len(),
+        )
+    }
+}
+
+pub fn step_areas(
+    config: &[u8],
+    fence: &[u8],
+    state: &mut [u8],
+    telemetry: &[u8],
+    output: &mut [u8],
+    areas: &[u8],
+) -> u32 {
+    // SAFETY: six slices that are alive and do not overlap.
+    unsafe {
+        failsafe_step_areas(
+            config.as_ptr(),
+            config.len(),
+            fence.as_ptr(),
+            fence.len(),
+            state.as_mut_ptr(),
+            state.len(),
+            telemetry.as_ptr(),
+            telemetry.len(),
+            output.as_mut_ptr(),
+            output.len(),
+            areas.as_ptr(),
+            areas.len(),
+        )
+    }
+}
+
+pub fn add_area(areas: &[u8], area: &[u8], output: &mut [u8]) -> u32 {
+    // SAFETY: three slices that are alive and do not overlap.
+    unsafe {
+        failsafe_add_area(
+            areas.as_ptr(),
+            areas.len(),
+            area.as_ptr(),
+            area.len(),
+            output.as_mut_ptr(),
+            output.len(),
+        )
+    }
+}
+
+pub fn remove_area(areas: &[u8], number: u8, output: &mut [u8]) -> u32 {
+    // SAFETY: two slices that are alive and do not overlap.
+    unsafe {
+        failsafe_remove_area(
+            areas.as_ptr(),
+            areas.len(),
+            number,
             output.as_mut_ptr(),
             output.len(),
         )

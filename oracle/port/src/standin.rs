@@ -89,6 +89,121 @@ extern "C" fn failsafe_step_side(
 }
 
 #[unsafe(no_mangle)]
+extern "C" fn failsafe_step_areas(
+    config: *const u8,
+    config_len: usize,
+    fence: *const u8,
+    fence_len: usize,
+    state: *mut u8,
+    state_len: usize,
+    telemetry: *const u8,
+    telemetry_len: usize,
+    output: *mut u8,
+    output_len: usize,
+    areas: *const u8,
+    areas_len: usize,
+) -> u32 {
+    // SAFETY: the driver hands over slices that are alive and do not overlap.
+    let (config, fence, state, telemetry, output, mut areas) = unsafe {
+        (
+            from_raw_parts(config, config_len),
+            from_raw_parts(fence, fence_len),
+            from_raw_parts_mut(state, state_len),
+            from_raw_parts(telemetry, telemetry_len),
+            from_raw_parts_mut(output, output_len),
+            from_raw_parts(areas, areas_len),
+        )
+    };
+    // The last of the areas is left out, where they are sound.
+    let mut fewer = [0; 1100];
+    if fault() == 10 && frames::read_areas(areas).is_ok_and(|held| !held.is_empty()) {
+        let last = last_number(areas);
+        frames::remove_area_entry(areas, last, &mut fewer);
+        areas = &fewer[..2 + u16::from_le_bytes([fewer[0], fewer[1]]) as usize];
+    }
+    let number = frames::step_areas_entry(config, fence, state, telemetry, output, areas);
+    match fault() {
+        // 0 for the −0 on an area's side.
+        11 if number == 0 && output[90..94] == [0, 0, 0, 0x80] => output[93] = 0,
+        // The fence's side where an area is nearest.
+        12 if number == 0 && output[94] == frames::AREA_SIDE => output[94] = 0,
+        // Home's rule before the number's.
+        13 if number == 31 => return 32,
+        // The state before the areas.
+        14 if number == 31 && frames::State::read_frame(state).is_err() => return 4,
+        _ => {}
+    }
+    number
+}
+
+/// The highest number of a sound frame that is not empty.
+fn last_number(areas: &[u8]) -> u8 {
+    let mut at = 5;
+    let mut last = 0;
+    while let Some(number) = areas.get(at) {
+        last = *number;
+        at += 2 + 8 * areas[at + 1] as usize;
+    }
+    last
+}
+
+#[unsafe(no_mangle)]
+extern "C" fn failsafe_add_area(
+    areas: *const u8,
+    areas_len: usize,
+    area: *const u8,
+    area_len: usize,
+    output: *mut u8,
+    output_len: usize,
+) -> u32 {
+    // SAFETY: the driver hands over slices that are alive and do not overlap.
+    let (areas, area, output) = unsafe {
+        (
+            from_raw_parts(areas, areas_len),
+            from_raw_parts(area, area_len),
+            from_raw_parts_mut(output, output_len),
+        )
+    };
+    let number = frames::add_area_entry(areas, area, output);
+    match fault() {
+        // A ninth before a number that is held.
+        15 if number == 31 && areas.get(4) == Some(&8) => return 30,
+        // A byte past the frame.
+        16 if number == 0 => {
+            let size = 2 + u16::from_le_bytes([output[0], output[1]]) as usize;
+            if let Some(byte) = output.get_mut(size) {
+                *byte ^= 1;
+            }
+        }
+        _ => {}
+    }
+    number
+}
+
+#[unsafe(no_mangle)]
+extern "C" fn failsafe_remove_area(
+    areas: *const u8,
+    areas_len: usize,
+    number: u8,
+    output: *mut u8,
+    output_len: usize,
+) -> u32 {
+    // SAFETY: the driver hands over slices that are alive and do not overlap.
+    let (areas, output) = unsafe {
+        (
+            from_raw_parts(areas, areas_len),
+            from_raw_parts_mut(output, output_len),
+        )
+    };
+    // A number that is not held changes nothing and is no refusal.
+    let answer = frames::remove_area_entry(areas, number, output);
+    if fault() == 17 && answer == 31 && areas.is_empty() {
+        return 0;
+    }
+    answer
+}
+
+#[unsafe(no_mangle)]
 extern "C" fn failsafe_fresh(state: *mut u8, state_len: usize) -> u32 {
     // SAFETY: the driver hands over a slice that is alive.
     let state = unsafe { from_raw_parts_mut(state, state_len) };

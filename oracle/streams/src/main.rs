@@ -7,7 +7,10 @@ mod programs;
 
 use std::collections::BTreeMap;
 
-use flights::{Both, Pilot, Setup, break_config, break_fence, damage, once_round, star};
+use flights::{
+    Both, Pilot, Setup, area_body, areas_frame, break_areas, break_config, break_fence, damage,
+    once_round, refuse_areas, ring_near, star,
+};
 use frames::{TELEMETRY, TELEMETRY_FRAME, put_frame};
 use programs::Program;
 use random::Random;
@@ -47,6 +50,58 @@ fn flight(random: &mut Random, setup: &Setup, steps: usize) -> Vec<Vec<u8>> {
     all
 }
 
+/// Areas near a telemetry frame's place, each of them accepted.
+fn areas_near(random: &mut Random, telemetry: &[u8]) -> Vec<u8> {
+    let real = |at: usize| f32::from_le_bytes(std::array::from_fn(|k| telemetry[at + k]));
+    let mut bodies = Vec::new();
+    for number in 1..=random.below(9) as u8 {
+        let far = random.one_of(&[0.0, 5.0, 10.0, -1.0]);
+        let body = area_body(20 * number, &ring_near(random, (real(13), real(17)), far));
+        if frames::read_areas(&areas_frame(&[body.clone()])).is_ok() {
+            bodies.push(body);
+        }
+    }
+    areas_frame(&bodies)
+}
+
+/// Puts areas before some of the telemetry frames of a flight.
+fn with_areas(random: &mut Random, all: Vec<Vec<u8>>) -> Vec<Vec<u8>> {
+    let mut more = Vec::new();
+    for (k, frame) in all.into_iter().enumerate() {
+        if k >= 2 && random.chance(6) {
+            more.push(areas_near(random, &frame));
+        }
+        more.push(frame);
+    }
+    more
+}
+
+/// Areas that are refused, where areas are due.
+fn areas_refused(random: &mut Random, all: &mut Vec<Vec<u8>>) {
+    let ring = ring_near(random, (90.0, 0.0), 0.0);
+    let frame = match random.below(3) {
+        0 => break_areas(random, &[area_body(3, &ring)]),
+        _ => refuse_areas(random),
+    };
+    let at = 2 + random.below(all.len() - 1);
+    // In the place of those that are there, if any.
+    all.retain(|frame| frame.get(2..4) != Some(&frames::AREAS.to_le_bytes()));
+    all.insert(at.min(all.len()), frame);
+}
+
+/// One frame of areas at any place: before the configuration or the fence, a second in a row, at the end; sound or not.
+fn areas_anywhere(random: &mut Random, all: &mut Vec<Vec<u8>>) {
+    let ring = ring_near(random, (90.0, 0.0), 0.0);
+    let frame = match random.below(3) {
+        0 => areas_near(random, &absent()),
+        1 => areas_frame(&[]),
+        _ => break_areas(random, &[area_body(3, &ring)]),
+    };
+    let anywhere = random.below(all.len() + 1);
+    let at = random.one_of(&[0, 1, 2.min(all.len()), all.len(), anywhere, anywhere]);
+    all.insert(at, frame);
+}
+
 /// A frame of 65,537 bytes.
 fn longest(kind: u16) -> Vec<u8> {
     let mut frame = vec![0; 65_537];
@@ -64,8 +119,11 @@ fn stream(random: &mut Random, case: usize) -> Vec<u8> {
     }
     let steps = random.one_of(&[0, 1, 3, 40, 800]);
     let mut all = flight(random, &setup, steps);
+    if random.chance(2) {
+        all = with_areas(random, all);
+    }
     let at = random.below(all.len());
-    match case % 8 {
+    match case % 10 {
         0 | 1 => {}
         2 => damage(random, &mut all[at]),
         3 => all.truncate(random.below(3)),
@@ -80,9 +138,11 @@ fn stream(random: &mut Random, case: usize) -> Vec<u8> {
         5 if random.chance(3) => all[1] = once_round(star(random)),
         5 => all[1] = break_fence(random),
         6 => {
-            let kind = random.one_of(&[1, 2, 3, 4, 5, 8, 255]);
+            let kind = random.one_of(&[1, 2, 3, 4, 5, 8, 13, 255]);
             all.insert(at, longest(kind));
         }
+        8 => areas_refused(random, &mut all),
+        9 => areas_anywhere(random, &mut all),
         _ => {
             let bytes = all.concat();
             return bytes[..random.below(bytes.len() + 1)].to_vec();
@@ -140,7 +200,7 @@ fn compare(port: &Program, rust: &Program, cases: usize, seed: u64) -> Result<St
         .map(|(number, count)| format!("{number}: {count}"))
         .collect();
     println!("ended with: {}", told.join(", "));
-    for number in [0, 1, 2, 3, 4, 11, 16, 33] {
+    for number in [0, 1, 2, 3, 4, 11, 16, 30, 31, 32, 33] {
         if !endings.contains_key(&number) {
             return Err(format!("no stream ended with {number}"));
         }
@@ -164,7 +224,7 @@ fn main() {
         [port, rust, rest @ ..] => {
             let number =
                 |k: usize, or: u64| rest.get(k).map_or(or, |x| x.parse().expect("a number"));
-            let (cases, seed) = (number(0, 240), number(1, 1));
+            let (cases, seed) = (number(0, 300), number(1, 1));
             println!("seed {seed}, {cases} streams");
             compare(&Program::at(port), &Program::at(rust), cases as usize, seed)
         }

@@ -10,10 +10,10 @@ use Rattle.decide.proofs.fly.Lts as lts
 use Rattle.decide.proofs.fly_next.Reads as fly-next-reads
 
 abbrev Inv-loop : tie.InvT-loop
-Inv-loop f from input output₀ p₀ turns₀ output p turns = length output ≡ length output₀
+Inv-loop from input output₀ held₀ f p₀ turns₀ output held p turns = length output ≡ length output₀
 
 abbrev μ-loop : tie.MeasureT-loop
-μ-loop f from input output₀ p₀ turns₀ output p turns = turns
+μ-loop from input output₀ held₀ f p₀ turns₀ output held p turns = turns
 
 loop-holds : tie.Need-loop-holds Inv-loop μ-loop
 loop-holds c = refl

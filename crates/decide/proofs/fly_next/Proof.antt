@@ -13,6 +13,9 @@ use Rattle.stream.proofs.in_flight.Reads as in-flight-reads
 least-requires : tie.Need-least-requires
 least-requires c κs = search needs
 
+least-requires-2 : tie.Need-least-requires-2
+least-requires-2 c κs = search needs
+
 sub-fly-frames : tie.Need-sub-fly-frames
 sub-fly-frames c = search needs
 
@@ -28,14 +31,14 @@ fly-frames-requires c κs = search needs
 sub-least : tie.Need-sub-least
 sub-least c = search needs
 
-least-requires-2 : tie.Need-least-requires-2
-least-requires-2 c κs = search needs
+least-requires-3 : tie.Need-least-requires-3
+least-requires-3 c κs = search needs
 
 write-out-requires : tie.Need-write-out-requires
 write-out-requires c κs = search needs
 
-add-t12 : tie.Need-add-t12
-add-t12 c = omega (arith, c .before .before .least2 .ensures .1, c .before .before .before .before .before .before .before .before .before .least .ensures .1, c .before .before .before .before .before .before .before .before .before .before .before .before .before .good)
+add-t15 : tie.Need-add-t15
+add-t15 c = omega (arith, c .before .before .least3 .ensures .1, c .before .before .before .before .before .before .before .before .before .before .least2 .ensures .1, c .before .before .before .before .before .before .before .before .before .before .before .before .before .before .before .good)
 
 in-flight-requires : tie.Need-in-flight-requires
 in-flight-requires c κs = search needs
@@ -51,14 +54,15 @@ fly-next-spec =
     tie.close
     (tie.spec
     least-requires
+    least-requires-2
     sub-fly-frames
     part-fly-frames-start
     part-fly-frames-end
     fly-frames-requires
     sub-least
-    least-requires-2
+    least-requires-3
     write-out-requires
-    add-t12
+    add-t15
     in-flight-requires
     same-length
     returns)

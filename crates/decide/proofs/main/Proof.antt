@@ -4,12 +4,17 @@ use borrow.Author.Needs.{needs}
 use lib.ListN.{length}
 use Rattle.decide.proofs.main.Statement.{statement}
 use Rattle.decide.proofs.main.Tie as tie
+use Rattle.decide.proofs.main.Reads as reads
+use Rattle.decide.proofs.main.Lts as lts
+use Rattle.decide.proofs.read_once.Reads as read-once-reads
+use Rattle.io.proofs.large_buffer.Reads as large-buffer-reads
+use Rattle.stream.proofs.begin.Reads as begin-reads
 
 abbrev Inv-loop : tie.InvT-loop
-Inv-loop input₀ output₀ k₀ turns₀ input output k turns = (length input ≡ 131072) × (length output ≡ 65536)
+Inv-loop input₀ output₀ held₀ k₀ turns₀ input output held k turns = (length input ≡ 131072) × (length output ≡ 65536)
 
 abbrev μ-loop : tie.MeasureT-loop
-μ-loop input₀ output₀ k₀ turns₀ input output k turns = turns
+μ-loop input₀ output₀ held₀ k₀ turns₀ input output held k turns = turns
 
 large-buffer-requires : tie.Need-large-buffer-requires Inv-loop μ-loop
 large-buffer-requires c κs = search needs

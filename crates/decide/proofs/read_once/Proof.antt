@@ -55,7 +55,7 @@ fly-on-requires : tie.Need-fly-on-requires
 fly-on-requires c κs = search needs
 
 same-length-3 : tie.Need-same-length-3
-same-length-3 c = c .before .before .before .before .fly-on .kept .1 .1 .1 .0 ∙ c .before .before .before .before .before .before .before .before .before .before .before .before .before .before .before .before .before .before .read-more .kept .0
+same-length-3 c = c .before .before .before .before .fly-on .kept .1 .1 .1 .0 ∙ c .before .before .before .before .before .before .before .before .before .before .before .before .before .before .before .before .before .before .before .read-more .kept .0
 
 same-length-4 : tie.Need-same-length-4
 same-length-4 c = search needs
@@ -69,8 +69,8 @@ least-requires c κs = search needs
 move-front-requires : tie.Need-move-front-requires
 move-front-requires c κs = search needs
 
-sub-t33 : tie.Need-sub-t33
-sub-t33 c = search needs
+sub-t35 : tie.Need-sub-t35
+sub-t35 c = search needs
 
 in-setup-requires : tie.Need-in-setup-requires
 in-setup-requires c κs = search needs
@@ -105,7 +105,7 @@ read-once-spec =
     returns-2
     least-requires
     move-front-requires
-    sub-t33
+    sub-t35
     in-setup-requires
     same-length-5
     same-length-6

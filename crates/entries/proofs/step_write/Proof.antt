@@ -32,12 +32,12 @@ same-length-2 c = search needs
 
 returns-2 : tie.Need-returns-2
 returns-2 c =
-    let o = now (c .before .before .before .before .before .before .before .before .before .before .before .before .before .before .before .args .output) in
+    let o = now (c .before .before .before .before .before .before .before .before .before .before .before .before .before .before .before .before .args .output) in
     let roomy = subst (λ (n : ℕ). n ≤ length o) (c .before .before .before .before .before .before .before .before .before .before .before .before .output-size .ensures) (c .before .before .before .before .before .before .before .before .before .before .before .if1 .left) in
     rw (← c .before .before .before .before .before .before .before .before .before .before .step-flight .ensures, le-ltb (length o) _ roomy) (
       refl,
       (
-        c .before .before .before .before .before .before .write-state .ensures .1 ∙ state-written _ _ (c .before .before .before .before .before .before .before .before .before .before .before .before .before .before .before .pre),
+        c .before .before .before .before .before .before .write-state .ensures .1 ∙ state-written _ _ (c .before .before .before .before .before .before .before .before .before .before .before .before .before .before .before .before .pre),
         c .before .before .write-output .ensures,
       ),
     )

@@ -15,10 +15,10 @@ use Rattle.frame_fence.proofs.corners_at.Statement.{statement}
 use Rattle.frame_fence.proofs.corners_at.Tie as tie
 
 abbrev Inv-loop : tie.InvT-loop
-Inv-loop s n corners₀ i₀ corners i = (i ≤ n) × (corners ≡ take i (cornersAt s 13 n) ++ replicate (16 - i) zeroPoint)
+Inv-loop s from n corners₀ i₀ corners i = (i ≤ n) × (corners ≡ take i (cornersAt s from n) ++ replicate (16 - i) zeroPoint)
 
 abbrev μ-loop : tie.MeasureT-loop
-μ-loop s n corners₀ i₀ corners i = n - i
+μ-loop s from n corners₀ i₀ corners i = n - i
 
 loop-holds : tie.Need-loop-holds Inv-loop μ-loop
 loop-holds c = search needs
@@ -48,10 +48,10 @@ loop-again : tie.Need-loop-again Inv-loop μ-loop
 loop-again c =
     let a = c .before .before .before .before .args in
     let l = c .before .before .loop in
-    let m = cornersAt (now (a .s)) 13 (a .n) in
-    let e = length-corners (now (a .s)) 13 (a .n) in (
+    let m = cornersAt (now (a .s)) (a .at) (a .n) in
+    let e = length-corners (now (a .s)) (a .at) (a .n) in (
       omega arith,
-      rw (l .inv .1, c .point-at .ensures, ← corner-at (now (a .s)) 13 (a .n) (l .i) nowhere (omega arith)) (store m zeroPoint (l .i) nowhere (omega arith) (omega arith)),
+      rw (l .inv .1, c .point-at .ensures, ← corner-at (now (a .s)) (a .at) (a .n) (l .i) nowhere (omega arith)) (store m zeroPoint (l .i) nowhere (omega arith) (omega arith)),
     )
 
 returns : tie.Need-returns Inv-loop μ-loop
@@ -59,8 +59,8 @@ unfolding cornerArray
 returns c =
     let a = c .before .before .before .args in
     let l = c .before .loop in
-    let e = length-corners (now (a .s)) 13 (a .n) in
-    rw (l .inv .1, e) (stored (cornersAt (now (a .s)) 13 (a .n)) zeroPoint (l .i) (a .n) e (omega arith))
+    let e = length-corners (now (a .s)) (a .at) (a .n) in
+    rw (l .inv .1, e) (stored (cornersAt (now (a .s)) (a .at) (a .n)) zeroPoint (l .i) (a .n) e (omega arith))
 
 pub corners-at-spec : {M : Type 1} → statement M
 corners-at-spec =

@@ -8,19 +8,19 @@ use Rattle.spelling.proofs.judged_again.Tie as tie
 rules-requires : tie.Need-rules-requires
 rules-requires c κs = search needs
 
-result-number-requires : tie.Need-result-number-requires
-result-number-requires c κs = search needs
+fence-number-requires : tie.Need-fence-number-requires
+fence-number-requires c κs = search needs
 
 returns : tie.Need-returns
 unfolding judgedAgain
-returns c = rw (← c .before .before .rules .ensures, ← c .before .result-number .ensures, eq-eqb _ _ (c .if1 .taken))
+returns c = rw (← c .before .before .rules .ensures, ← c .before .fence-number .ensures, eq-eqb _ _ (c .if1 .taken))
 
 refused-fence-requires : tie.Need-refused-fence-requires
 refused-fence-requires c κs = search needs
 
 returns-2 : tie.Need-returns-2
 unfolding judgedAgain
-returns-2 c = rw (← c .before .before .before .rules .ensures, ← c .before .before .result-number .ensures, ne-eqb _ _ (c .before .if1 .left), ← c .refused-fence .ensures)
+returns-2 c = rw (← c .before .before .before .rules .ensures, ← c .before .before .fence-number .ensures, ne-eqb _ _ (c .before .if1 .left), ← c .refused-fence .ensures)
 
 pub judged-again-spec : {M : Type 1} → statement M
-judged-again-spec = tie.close (tie.spec rules-requires result-number-requires refused-fence-requires returns returns-2)
+judged-again-spec = tie.close (tie.spec rules-requires fence-number-requires refused-fence-requires returns returns-2)

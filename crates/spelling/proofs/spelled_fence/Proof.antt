@@ -21,15 +21,15 @@ read-fence-requires c κs = search needs
 rules-requires : tie.Need-rules-requires
 rules-requires c κs = search needs
 
-result-number-requires : tie.Need-result-number-requires
-result-number-requires c κs = search needs
+fence-number-requires : tie.Need-fence-number-requires
+fence-number-requires c κs = search needs
 
 refused-fence-requires-2 : tie.Need-refused-fence-requires-2
 refused-fence-requires-2 c κs = search needs
 
 returns-2 : tie.Need-returns-2
 unfolding spelledFence
-returns-2 c = rw (← c .before .before .before .before .before .before .head-fault .ensures, eq-eqb _ _ (c .before .before .before .before .before .if1 .left), ← c .before .before .before .before .read-fence .ensures, ← c .before .before .before .rules .ensures, ← c .before .before .result-number .ensures, ne-eqb _ _ (c .before .if2 .taken), ← c .refused-fence2 .ensures)
+returns-2 c = rw (← c .before .before .before .before .before .before .head-fault .ensures, eq-eqb _ _ (c .before .before .before .before .before .if1 .left), ← c .before .before .before .before .read-fence .ensures, ← c .before .before .before .rules .ensures, ← c .before .before .fence-number .ensures, ne-eqb _ _ (c .before .if2 .taken), ← c .refused-fence2 .ensures)
 
 in-form-requires : tie.Need-in-form-requires
 in-form-requires c κs = search needs
@@ -39,7 +39,7 @@ judged-again-requires c κs = search needs
 
 returns-3 : tie.Need-returns-3
 unfolding spelledFence
-returns-3 c = rw (← c .before .before .before .before .before .before .before .head-fault .ensures, eq-eqb _ _ (c .before .before .before .before .before .before .if1 .left), ← c .before .before .before .before .before .read-fence .ensures, ← c .before .before .before .before .rules .ensures, ← c .before .before .before .result-number .ensures, eq-eqb _ _ (c .before .before .if2 .left), ← c .before .in-form .ensures, ← c .judged-again .ensures)
+returns-3 c = rw (← c .before .before .before .before .before .before .before .head-fault .ensures, eq-eqb _ _ (c .before .before .before .before .before .before .if1 .left), ← c .before .before .before .before .before .read-fence .ensures, ← c .before .before .before .before .rules .ensures, ← c .before .before .before .fence-number .ensures, eq-eqb _ _ (c .before .before .if2 .left), ← c .before .in-form .ensures, ← c .judged-again .ensures)
 
 pub spelled-fence-spec : {M : Type 1} → statement M
 spelled-fence-spec =
@@ -50,7 +50,7 @@ spelled-fence-spec =
     returns
     read-fence-requires
     rules-requires
-    result-number-requires
+    fence-number-requires
     refused-fence-requires-2
     returns-2
     in-form-requires

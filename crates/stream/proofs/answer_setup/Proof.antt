@@ -1,8 +1,8 @@
 -- `stream::answer_setup` meets its contract. Assumes nothing.
 use mathlib.Core.Path.{refl}
-use borrow.Author.Needs.{needs}
 use Rattle.stream.specs.Stream.{answerSetup}
 use Rattle.stream.proofs.Room.{written-nothing}
+use borrow.Author.Needs.{needs}
 use Rattle.stream.proofs.answer_setup.Statement.{statement}
 use Rattle.stream.proofs.answer_setup.Tie as tie
 use Rattle.stream.proofs.answer_setup.Reads as reads
@@ -35,6 +35,12 @@ enum-told-4 c = search needs
 silent-requires-2 : tie.Need-silent-requires-2
 silent-requires-2 c κs = search needs
 
+enum-told-5 : tie.Need-enum-told-5
+enum-told-5 c = search needs
+
+silent-requires-3 : tie.Need-silent-requires-3
+silent-requires-3 c κs = search needs
+
 same-length : tie.Need-same-length
 same-length c = search needs
 
@@ -57,6 +63,10 @@ returns-4 : tie.Need-returns-4
 unfolding answerSetup
 returns-4 c = rw (c .silent2 .ensures (c .before .before .before .before .before .before .before .args .out .now), c .before .enum-told4 .given .1) (refl, written-nothing _)
 
+returns-5 : tie.Need-returns-5
+unfolding answerSetup
+returns-5 c = rw (c .silent3 .ensures (c .before .before .before .before .before .before .before .args .out .now), c .before .enum-told5 .given .1) (refl, written-nothing _)
+
 pub answer-setup-spec : {M : Type 1} → statement M
 answer-setup-spec =
     tie.close
@@ -69,9 +79,12 @@ answer-setup-spec =
     silent-requires
     enum-told-4
     silent-requires-2
+    enum-told-5
+    silent-requires-3
     same-length
     returns
     same-length-2
     returns-2
     returns-3
-    returns-4)
+    returns-4
+    returns-5)

@@ -1,57 +1,65 @@
 -- `stream::fly_frame` meets its contract. Assumes nothing.
-use mathlib.Core.Path.{refl}
+use native.Mathlib.Omega.{arith}
+use lib.ListN.{length-take}
+use Rattle.frame_telemetry.specs.TelemetryFrame.{readTelemetry}
+use Rattle.stream.specs.Stream.{answerFrame}
+use Rattle.stream.proofs.Frames.{kept}
 use borrow.Author.Needs.{needs}
-use Rattle.stream.specs.declared.Due.{Due}
 use Rattle.stream.proofs.fly_frame.Statement.{statement}
 use Rattle.stream.proofs.fly_frame.Tie as tie
 use Rattle.stream.proofs.fly_frame.Reads as reads
 use Rattle.stream.proofs.fly_frame.Lts as lts
-use Rattle.flight.proofs.step_flight.Reads as step-flight-reads
-use Rattle.frame_telemetry.proofs.read_telemetry.Reads as read-telemetry-reads
-use Rattle.stream.proofs.put_decision.Reads as put-decision-reads
-use Rattle.stream.proofs.put_refusal.Reads as put-refusal-reads
+use Rattle.stream.proofs.hold_areas.Reads as hold-areas-reads
+use Rattle.stream.proofs.step_frame.Reads as step-frame-reads
+use Rattle.stream.proofs.takes_areas.Reads as takes-areas-reads
 
-read-telemetry-requires : tie.Need-read-telemetry-requires
-read-telemetry-requires c κs = search needs
+takes-areas-requires : tie.Need-takes-areas-requires
+takes-areas-requires c κs = search needs
 
-enum-known-n : tie.Need-enum-known-n
-enum-known-n c = search needs
+hold-areas-requires : tie.Need-hold-areas-requires
+hold-areas-requires c κs = search needs
 
-put-refusal-requires : tie.Need-put-refusal-requires
-put-refusal-requires c κs = search needs
+slice-reshare-prefix-step-frame : tie.Need-slice-reshare-prefix-step-frame
+slice-reshare-prefix-step-frame c = search needs
 
-enum-known-t : tie.Need-enum-known-t
-enum-known-t c = search needs
+slice-aggregate-step-frame : tie.Need-slice-aggregate-step-frame
+slice-aggregate-step-frame c = simp length-take (omega (arith, c .before .before .before .before .before .before .pre .0, c .before .before .before .before .before .before .pre .1))
 
-step-flight-requires : tie.Need-step-flight-requires
-step-flight-requires c κs = search needs
-
-put-decision-requires : tie.Need-put-decision-requires
-put-decision-requires c κs = search needs
+step-frame-requires : tie.Need-step-frame-requires
+step-frame-requires c κs = search needs
 
 same-length : tie.Need-same-length
 same-length c = search needs
 
-returns : tie.Need-returns
-returns c = rw (← c .before .before .before .before .before .before .before .read-telemetry .ensures, c .before .before .before .before .before .n .given .1, ← c .before .before .put-refusal .ensures .0) (refl, c .before .before .put-refusal .ensures .1)
-
 same-length-2 : tie.Need-same-length-2
 same-length-2 c = search needs
 
+returns : tie.Need-returns
+unfolding answerFrame
+returns c = rw (← c .before .before .before .before .before .before .before .before .takes-areas .ensures, c .before .before .before .before .before .before .before .if1 .taken) (c .before .before .before .before .hold-areas .ensures)
+
+same-length-3 : tie.Need-same-length-3
+same-length-3 c = search needs
+
+same-length-4 : tie.Need-same-length-4
+same-length-4 c = search needs
+
 returns-2 : tie.Need-returns-2
-returns-2 c = rw (← c .before .before .before .before .before .before .before .before .before .before .read-telemetry .ensures, c .before .before .before .before .before .before .before .before .t .given .1, ← c .before .before .before .before .before .before .step-flight .ensures, ← c .before .before .put-decision .ensures .0) (λ i. record { due = Due.Telemetry; supervisor = c .before .before .before .before .before .before .step-flight .ensures i .supervisor; put = c .before .before .put-decision .result }, c .before .before .put-decision .ensures .1)
+unfolding answerFrame
+returns-2 c = rw (← c .before .before .before .before .before .before .takes-areas .ensures, c .before .before .before .before .before .if1 .left) (c .before .before .step-frame .ensures .0, (c .before .before .step-frame .ensures .1, kept (readTelemetry (c .before .before .before .before .before .before .before .before .before .before .args .frame .now)) (c .before .before .before .before .before .before .before .before .before .before .args .f) (c .before .before .before .before .before .before .before .before .before .before .args .s) (c .before .before .before .before .before .before .before .before .before .before .args .areas) (c .before .before .before .before .before .before .before .before .before .before .args .held .now) (c .before .before .before .before .before .before .before .before .before .before .args .out .now) _ (c .before .before .before .before .before .before .before .before .before .before .pre .0) (c .before .before .before .before .before .before .before .before .before .before .pre .1) (c .before .before .step-frame .ensures .0)))
 
 pub fly-frame-spec : {M : Type 1} → statement M
 fly-frame-spec =
     tie.close
     (tie.spec
-    read-telemetry-requires
-    enum-known-n
-    put-refusal-requires
-    enum-known-t
-    step-flight-requires
-    put-decision-requires
+    takes-areas-requires
+    hold-areas-requires
+    slice-reshare-prefix-step-frame
+    slice-aggregate-step-frame
+    step-frame-requires
     same-length
-    returns
     same-length-2
+    returns
+    same-length-3
+    same-length-4
     returns-2)

@@ -1,7 +1,7 @@
 -- `stream::fly_next` meets its contract. The laws of one frame are in Frames. Assumes nothing.
 use native.Mathlib.Omega.{arith}
+use Rattle.stream.proofs.Frames.{step-put, step-areas, step-left, step-progress}
 use borrow.Author.Needs.{needs}
-use Rattle.stream.proofs.Frames.{step-put, step-left, step-progress}
 use Rattle.stream.proofs.fly_next.Statement.{statement}
 use Rattle.stream.proofs.fly_next.Tie as tie
 use Rattle.stream.proofs.fly_next.Reads as reads
@@ -32,14 +32,23 @@ part-fly-frame-end-2 c = search needs
 fly-frame-requires : tie.Need-fly-frame-requires
 fly-frame-requires c κs = search needs
 
-add-t14 : tie.Need-add-t14
-add-t14 c = omega (arith, step-put (c .before .before .before .before .before .before .before .before .before .before .args .f) (c .before .before .before .before .before .before .before .before .before .before .args .p) (c .before .before .before .before .before .before .before .before .before .before .args .n) (c .before .before .before .before .before .before .before .before .before .before .args .input .now) (c .before .before .before .before .before .before .before .before .before .before .args .out .now) (c .before .before .before .before .fly-frame .result) _ (c .before .before .before .before .before .before .before .before .before .before .pre .1) (c .before .before .before .before .fly-frame .ensures .0) (c .before .before .before .before .fly-frame .ensures .1), c .before .before .before .before .before .before .before .before .before .before .good)
+add-t16 : tie.Need-add-t16
+add-t16 c =
+    let k = c .before .before .before .before .before .before .before .before .before .before .before .before .before .before in
+    let a = c .before .before .before .before .before .before .fly-frame in
+    omega (arith, step-put (k .args .f) (k .args .p) (k .args .n) (k .args .input .now) (k .args .out .now) (k .args .held .now) (a .result) _ _ (k .pre .1 .0) (k .pre .1 .1 .0) (k .pre .1 .1 .1) (a .ensures .0) (a .ensures .1 .0) (a .ensures .1 .1), k .good)
 
 same-length : tie.Need-same-length
 same-length c = search needs
 
+same-length-2 : tie.Need-same-length-2
+same-length-2 c = search needs
+
 returns : tie.Need-returns
-returns c = (step-progress (c .before .before .before .before .before .before .before .before .before .before .args .f) (c .before .before .before .before .before .before .before .before .before .before .args .p) (c .before .before .before .before .before .before .before .before .before .before .args .n) (c .before .before .before .before .before .before .before .before .before .before .args .input .now) (c .before .before .before .before .before .before .before .before .before .before .args .out .now) (c .before .before .before .before .fly-frame .result) _ (c .before .before .before .before .before .before .before .before .before .before .pre .1) (c .before .before .before .before .fly-frame .ensures .0) (c .before .before .before .before .fly-frame .ensures .1), (step-left (c .before .before .before .before .before .before .before .before .before .before .args .f) (c .before .before .before .before .before .before .before .before .before .before .args .p) (c .before .before .before .before .before .before .before .before .before .before .args .n) (c .before .before .before .before .before .before .before .before .before .before .args .input .now) (c .before .before .before .before .before .before .before .before .before .before .args .out .now) (c .before .before .before .before .fly-frame .result) _ (c .before .before .before .before .before .before .before .before .before .before .pre .1) (c .before .before .before .before .fly-frame .ensures .0) (c .before .before .before .before .fly-frame .ensures .1), (c .before .before .before .before .before .before .before .before .before .before .pre .0, omega arith, omega (arith, step-put (c .before .before .before .before .before .before .before .before .before .before .args .f) (c .before .before .before .before .before .before .before .before .before .before .args .p) (c .before .before .before .before .before .before .before .before .before .before .args .n) (c .before .before .before .before .before .before .before .before .before .before .args .input .now) (c .before .before .before .before .before .before .before .before .before .before .args .out .now) (c .before .before .before .before .fly-frame .result) _ (c .before .before .before .before .before .before .before .before .before .before .pre .1) (c .before .before .before .before .fly-frame .ensures .0) (c .before .before .before .before .fly-frame .ensures .1), c .before .before .before .out .given .1))))
+returns c =
+    let k = c .before .before .before .before .before .before .before .before .before .before .before .before .before .before in
+    let a = c .before .before .before .before .before .before .fly-frame in
+    (step-progress (k .args .f) (k .args .p) (k .args .n) (k .args .input .now) (k .args .out .now) (k .args .held .now) (a .result) _ _ (k .pre .1 .0) (k .pre .1 .1 .0) (k .pre .1 .1 .1) (a .ensures .0) (a .ensures .1 .0) (a .ensures .1 .1), (step-left (k .args .f) (k .args .p) (k .args .n) (k .args .input .now) (k .args .out .now) (k .args .held .now) (a .result) _ _ (k .pre .1 .0) (k .pre .1 .1 .0) (k .pre .1 .1 .1) (a .ensures .0) (a .ensures .1 .0) (a .ensures .1 .1), (k .pre .0, omega arith, omega (arith, step-put (k .args .f) (k .args .p) (k .args .n) (k .args .input .now) (k .args .out .now) (k .args .held .now) (a .result) _ _ (k .pre .1 .0) (k .pre .1 .1 .0) (k .pre .1 .1 .1) (a .ensures .0) (a .ensures .1 .0) (a .ensures .1 .1), c .before .before .before .before .before .out .given .1), step-areas (k .args .f) (k .args .p) (k .args .n) (k .args .input .now) (k .args .out .now) (k .args .held .now) (a .result) _ _ (k .pre .1 .0) (k .pre .1 .1 .0) (k .pre .1 .1 .1) (a .ensures .0) (a .ensures .1 .0) (a .ensures .1 .1))))
 
 pub fly-next-spec : {M : Type 1} → statement M
 fly-next-spec =
@@ -53,6 +62,7 @@ fly-next-spec =
     part-fly-frame-start-2
     part-fly-frame-end-2
     fly-frame-requires
-    add-t14
+    add-t16
     same-length
+    same-length-2
     returns)

@@ -1,6 +1,6 @@
 -- `stream::next_of` meets its contract. Assumes nothing.
-use borrow.Author.Needs.{needs}
 use Rattle.stream.proofs.Frames.{next-of, in-rest}
+use borrow.Author.Needs.{needs}
 use Rattle.stream.proofs.next_of.Statement.{statement}
 use Rattle.stream.proofs.next_of.Tie as tie
 use Rattle.stream.proofs.next_of.Reads as reads
@@ -23,7 +23,7 @@ next-frame-requires : tie.Need-next-frame-requires
 next-frame-requires c κs = search needs
 
 returns : tie.Need-returns
-returns c = (next-of (c .before .before .before .before .before .args .p) (c .before .before .before .before .before .args .input .now) (c .before .before .before .before .before .args .out .now) _ (c .before .before .before .before .before .pre .1) (c .next-frame .ensures .0), in-rest (c .before .before .before .before .before .args .input .now) (c .before .before .before .before .before .args .p .taken) _ (c .before .before .before .before .before .pre .0) (c .next-frame .ensures .1))
+returns c = (λ held. next-of (c .before .before .before .before .before .args .p) (c .before .before .before .before .before .args .input .now) (c .before .before .before .before .before .args .out .now) held _ (c .before .before .before .before .before .pre .1) (c .next-frame .ensures .0), in-rest (c .before .before .before .before .before .args .input .now) (c .before .before .before .before .before .args .p .taken) _ (c .before .before .before .before .before .pre .0) (c .next-frame .ensures .1))
 
 pub next-of-spec : {M : Type 1} → statement M
 next-of-spec =

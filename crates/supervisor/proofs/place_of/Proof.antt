@@ -9,6 +9,9 @@ enum-known-pos c = search needs
 nearest-by-requires : tie.Need-nearest-by-requires
 nearest-by-requires c κs = search needs
 
+clearance-requires : tie.Need-clearance-requires
+clearance-requires c κs = search needs
+
 horizontal-dist-home-requires : tie.Need-horizontal-dist-home-requires
 horizontal-dist-home-requires c κs = search needs
 
@@ -19,7 +22,7 @@ enum-told : tie.Need-enum-told
 enum-told c = search needs
 
 returns : tie.Need-returns
-returns c = rw (c .before .before .before .before .before .pos .given .1, ← c .before .before .nearest-by .ensures, ← c .before .horizontal-dist-home .ensures, ← c .alt-m .ensures)
+returns c = rw (c .before .before .before .before .before .before .pos .given .1, ← c .before .before .before .nearest-by .ensures, ← c .before .before .clearance .ensures, ← c .before .horizontal-dist-home .ensures, ← c .alt-m .ensures)
 
 returns-2 : tie.Need-returns-2
 returns-2 c = search needs
@@ -30,6 +33,7 @@ place-of-spec =
     (tie.spec
     enum-known-pos
     nearest-by-requires
+    clearance-requires
     horizontal-dist-home-requires
     alt-m-requires
     enum-told

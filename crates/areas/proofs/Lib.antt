@@ -1,0 +1,7 @@
+-- The proofs of the claims, with what they need.
+pub mod Lists
+pub mod Good
+pub mod Claim
+pub mod Cut
+pub mod Clearance
+pub mod Instances
