@@ -169,6 +169,10 @@ uint32_t failsafe_inside(const uint8_t *fence, size_t fence_len,
                          const uint8_t *points, size_t points_len,
                          uint8_t *output, size_t output_len);
 
+/* Before a flight: 0, or the refusal that every step with this configuration and fence would answer. */
+uint32_t failsafe_check(const uint8_t *config, size_t config_len,
+                        const uint8_t *fence, size_t fence_len);
+
 /* A fresh state in the first 186 bytes of state; later bytes stay. The steps take a state slice of
  * exactly 186 bytes. */
 uint32_t failsafe_fresh(uint8_t *state, size_t state_len);

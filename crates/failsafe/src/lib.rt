@@ -2,6 +2,7 @@
 ghost use mathlib.Core.Bool.{true, false};
 ghost use mathlib.Core.List.{[]};
 ghost use mathlib.Core.Path.{_≡_};
+ghost use Rattle.flight.specs.Flight.{readFlight};
 ghost use Rattle.entries.specs.Entry.{stepAny, freshCall};
 ghost use Rattle.edit_areas.specs.Edit.{addCall, removeCall};
 ghost use Rattle.inside.specs.Call.{insideCall};
@@ -83,6 +84,14 @@ pub extern "C" fn failsafe_fresh(state: &mut [u8]) -> u32
     ensures { λ _. ⌜ now (state .exit) ≡ freshCall (now (state .entry)) .state ⌝ }
 {
     entries::fresh(state)
+}
+
+// Before a flight: the refusal that every step with this configuration and fence would answer, 0 for none.
+#[no_mangle]
+pub extern "C" fn failsafe_check(config: &[u8], fence: &[u8]) -> u32
+    ensures { λ r. ⌜ r ≡ readFlight (now (config .entry)) (now (fence .entry)) .refused ⌝ }
+{
+    entries::check(config, fence)
 }
 
 #[no_mangle]

@@ -7,7 +7,7 @@
 use flights::{Both, Coverage, Pilot, Setup, break_config, break_fence, damage, once_round, star};
 use frames::{
     CONFIG, DECISION, STATE, STATE_FRAME, State, TELEMETRY, TELEMETRY_FRAME, put_frame, read_fence,
-    read_frame,
+    read_frame, step_entry,
 };
 use port::{Call, Entry, Sides};
 use random::Random;
@@ -128,6 +128,7 @@ impl Driver {
             }
         }
         let given = call.clone();
+        self.check(&given, sound)?;
         let number = self.sides.step(&mut call)?;
         if number != 0 {
             assert_eq!(
@@ -144,6 +145,24 @@ impl Driver {
         self.coverage
             .add("number", format!("{number} {}", part(&given, number)));
         Ok(())
+    }
+
+    /// `failsafe_check` answers what a step with a sound rest does in the Rust.
+    fn check(&mut self, call: &Call, sound: &Call) -> Result<(), String> {
+        let mut rest = sound.clone();
+        let due = step_entry(
+            &call.config,
+            &call.fence,
+            &mut rest.state,
+            &rest.telemetry,
+            &mut rest.output,
+        );
+        match port::check(&call.config, &call.fence) {
+            Some(number) if number != due => Err(format!(
+                "failsafe_check answers {number}, and the Rust {due}"
+            )),
+            _ => Ok(()),
+        }
     }
 
     /// Two steps from a state that no flight may have reached.

@@ -71,12 +71,31 @@ unsafe extern "C" {
     ) -> u32;
     fn failsafe_fresh(state: *mut u8, state_len: usize) -> u32;
     #[cfg(not(feature = "standin"))]
+    fn failsafe_check(
+        config: *const u8,
+        config_len: usize,
+        fence: *const u8,
+        fence_len: usize,
+    ) -> u32;
+    #[cfg(not(feature = "standin"))]
     fn failsafe_spell_fence(
         fence: *const u8,
         fence_len: usize,
         output: *mut u8,
         output_len: usize,
     ) -> u32;
+}
+
+/// What `failsafe_check` answers; the stand-in has no such entry.
+#[cfg(not(feature = "standin"))]
+pub fn check(config: &[u8], fence: &[u8]) -> Option<u32> {
+    // SAFETY: two slices that are alive.
+    Some(unsafe { failsafe_check(config.as_ptr(), config.len(), fence.as_ptr(), fence.len()) })
+}
+
+#[cfg(feature = "standin")]
+pub fn check(_config: &[u8], _fence: &[u8]) -> Option<u32> {
+    None
 }
 
 pub fn step(

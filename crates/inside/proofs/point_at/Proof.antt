@@ -4,18 +4,18 @@ use borrow.Author.Needs.{needs}
 use Rattle.inside.proofs.point_at.Statement.{statement}
 use Rattle.inside.proofs.point_at.Tie as tie
 
-f32-at-requires : tie.Need-f32-at-requires
-f32-at-requires c κs = search needs
+float-at-requires : tie.Need-float-at-requires
+float-at-requires c κs = search needs
 
-add-f32-at : tie.Need-add-f32-at
-add-f32-at c = search needs
+add-float-at : tie.Need-add-float-at
+add-float-at c = search needs
 
-f32-at-requires-2 : tie.Need-f32-at-requires-2
-f32-at-requires-2 c κs = search needs
+float-at-requires-2 : tie.Need-float-at-requires-2
+float-at-requires-2 c κs = search needs
 
 returns : tie.Need-returns
 unfolding pointAt
-returns c = rw (← c .before .f32-at .ensures, ← c .f32-at2 .ensures)
+returns c = rw (← c .before .float-at .ensures, ← c .float-at2 .ensures)
 
 pub point-at-spec : {M : Type 1} → statement M
-point-at-spec = tie.close (tie.spec f32-at-requires add-f32-at f32-at-requires-2 returns)
+point-at-spec = tie.close (tie.spec float-at-requires add-float-at float-at-requires-2 returns)

@@ -1,23 +1,38 @@
 -- `inside::put_answer` meets its contract. Assumes nothing.
-use Prim.Native.Nat.{ℕ, _+_}
-use mathlib.Core.List.{List}
-use mathlib.Core.Path.{_∙_, ap, sym}
+use Prim.Native.Nat.{ℕ}
+use mathlib.Core.Bool.{Bool, true, false, cond}
+use mathlib.Core.List.{[], _∷_}
+use mathlib.Core.Path.{_≡_, _∙_, ap, refl}
+use native.Mathlib.Numerals.{add-one}
+use native.Mathlib.Omega.{arith}
+use lib.ListN.{set, length-set}
+use mir.Val.{boolByte}
 use lib.Seq.{sets}
 use denote.Ref.{now}
 use borrow.Author.Needs.{needs}
 use Rattle.wire.specs.Fields.{leFlag, le8}
-use Rattle.wire.proofs.Stores.{sets-append}
 use Rattle.inside.proofs.put_answer.Statement.{statement}
 use Rattle.inside.proofs.put_answer.Tie as tie
 
-put-flag-requires : tie.Need-put-flag-requires
-put-flag-requires c κs = search needs
+flag : (b : Bool) → boolByte b ≡ cond b 1 0
+flag true = refl
+flag false = refl
 
-add-put-u8 : tie.Need-add-put-u8
-add-put-u8 c = search needs
+cast-s : tie.Need-cast-s
+cast-s c = search needs
 
-put-u8-requires : tie.Need-put-u8-requires
-put-u8-requires c κs = search needs
+slice-write-s : tie.Need-slice-write-s
+slice-write-s c = search needs
+
+add-s : tie.Need-add-s
+add-s c = search needs
+
+slice-write-s-2 : tie.Need-slice-write-s-2
+slice-write-s-2 c =
+    let a = c .before .args in
+    let p = c .before .pre in
+    let e = length-set (now (a .s)) (a .at) (boolByte (a .r .yes)) in
+    omega arith
 
 same-length : tie.Need-same-length
 same-length c = search needs
@@ -25,11 +40,10 @@ same-length c = search needs
 returns : tie.Need-returns
 unfolding leFlag le8
 returns c =
-    let a = c .before .before .before .before .before .before .before .before .before .args in
-    c .before .before .put-u8 .ensures
-    ∙ ap (λ (m : List ℕ). sets m (a .at + 1) (le8 (a .r .read))) (c .before .before .before .before .before .before .put-flag .ensures)
-    ∙ sym (sets-append (now (a .s)) (a .at) (leFlag (a .r .yes)) (le8 (a .r .read)))
+    let a = c .before .args in
+    ap (λ (k : ℕ). set (set (now (a .s)) (a .at) (boolByte (a .r .yes))) k (a .r .read)) (add-one (a .at))
+    ∙ ap (λ (b : ℕ). sets (now (a .s)) (a .at) (b ∷ a .r .read ∷ [])) (flag (a .r .yes))
 
 pub put-answer-spec : {M : Type 1} → statement M
 put-answer-spec =
-    tie.close (tie.spec put-flag-requires add-put-u8 put-u8-requires same-length returns)
+    tie.close (tie.spec cast-s slice-write-s add-s slice-write-s-2 same-length returns)
