@@ -1,0 +1,2 @@
+-- What holds of every step.
+pub mod Laws

@@ -1,0 +1,1 @@
+// Laws of a whole step (specs/Laws.antt), with no code of their own.
