@@ -1,4 +1,4 @@
-# Sourced by the tests that need the Rust. `top` is the repository's folder; a test sets `build`, the folder of what it makes.
+# Sourced by the tests that need the Rust or the static library. `top` is the repository's folder; a test sets `build`, the folder of what it makes.
 top=$(cd "$(dirname "${BASH_SOURCE[0]}")/.." && pwd)
 
 # Ends the test where STATUS says that something is not here, or went wrong; SAID is the file with the reason.
@@ -24,9 +24,9 @@ kept_list() { # PROGRAM REPLAY
     done
 }
 
-# Proves and writes the static library, for the oracle to link.
+# Proves and writes the static library, for a test or the oracle to link; the gate does so once, before its tests.
 staticlib() {
-    if ! rt staticlib failsafe >"$build/staticlib.out" 2>&1; then
+    if [ -z "${CUTHRANSI_LIBRARY_MADE:-}" ] && ! rt staticlib failsafe >"$build/staticlib.out" 2>&1; then
         cat "$build/staticlib.out"
         exit 1
     fi

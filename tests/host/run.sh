@@ -2,18 +2,11 @@
 # The C example: compiled with warnings as errors, linked with the static library, and what it prints compared with
 # examples/host.out. Then calls with slices of no bytes (empty.c).
 set -eu
-top=$(cd "$(dirname "${BASH_SOURCE[0]}")/../.." && pwd)
+. "$(dirname "${BASH_SOURCE[0]}")/../common.sh"
 cd "$top"
 build=$top/build/host
 mkdir -p "$build"
-if ! grep -q '^failsafe:' crates.txt; then
-    echo "skipped: the crate failsafe is not there yet"
-    exit 0
-fi
-if ! rt staticlib failsafe >"$build/staticlib.out" 2>&1; then
-    cat "$build/staticlib.out"
-    exit 1
-fi
+staticlib
 for source in examples/host.c tests/host/empty.c; do
     gcc -std=c11 -O2 -Wall -Wextra -Werror -pedantic -Iinclude -o "$build/$(basename "$source" .c)" "$source" target/staticlib/libfailsafe.a
 done

@@ -15,10 +15,11 @@ fail() {
     exit 1
 }
 
-if ! rt check trials decide >"$build/check.out" 2>&1 || ! rt staticlib failsafe >>"$build/check.out" 2>&1; then
+if ! rt check trials decide >"$build/check.out" 2>&1; then
     cat "$build/check.out"
     exit 1
 fi
+staticlib
 gcc -std=c11 -O2 -Wall -Wextra -Werror -pedantic -Iinclude -o "$build/entry" tests/trials/entry.c target/staticlib/libfailsafe.a
 
 # Kept: seed 1 in crates/trials/stdout, and the largest seed here.

@@ -4,7 +4,7 @@
 # example of docs/ENERGY.md, and what the tool says of bad numbers.
 #   run.sh [CASES [SEED]]
 set -u
-top=$(cd "$(dirname "${BASH_SOURCE[0]}")/../.." && pwd)
+. "$(dirname "${BASH_SOURCE[0]}")/../common.sh"
 cd "$top" || exit 1
 build=$top/build/whole_energy
 mkdir -p "$build"
@@ -15,10 +15,7 @@ fail() {
     failed=1
 }
 
-if ! rt staticlib failsafe >"$build/staticlib.out" 2>&1; then
-    cat "$build/staticlib.out"
-    exit 1
-fi
+staticlib
 gcc -std=c11 -D_POSIX_C_SOURCE=199309L -O2 -Wall -Wextra -Werror -pedantic -Iinclude -o "$build/energy_test" tests/whole_energy/energy_test.c target/staticlib/libfailsafe.a || exit 1
 tests/whole_energy/reckon.py "$build/energy_test" "$@" || fail "the entry differs"
 
