@@ -1,1 +1,1 @@
-// Document 01's table of proved instances: specs/Table.antt states it, proofs/Table.antt shows it. No code.
+// Document 01's table of proved instances (Table.antt), and small ones that a definition bent as its code is cannot pass (Small.antt): specs/ states them, proofs/ shows them. No code.
