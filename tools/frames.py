@@ -6,7 +6,14 @@
   frames.py show [FILE] [--input FILE]  shows frames as text, a line for each (FILE: default standard input;
                                         --input: the frames or the flight that were stepped: the n-th Decision
                                         is then shown with the time of the n-th telemetry, and the side of a
-                                        Decision of kind 6 with its two corners)
+                                        Decision of kind 6 with its two corners; status 1 where there are not as
+                                        many Decisions as telemetries, or a refusal is among them;
+                                        without --input a refusal is a line as any other)
+  frames.py count [--csv] FLIGHT ..     counts the landings of recorded flights by reason, as a table (--csv: as CSV); see below
+  frames.py csv [FILE] [--input FILE]   writes Decisions as CSV, a row for each with every field (FILE, --input: as for show;
+                                        --input puts in the telemetry's time, now_ms). Any other frame is an error, and a
+                                        refusal ends with status 1 after the rows before it
+  frames.py telemetry LOG.csv [FILE]    packs the rows of a log into telemetry frames; the columns are below
   frames.py draw INPUT [FILE]           draws the fence of a flight or of frames (INPUT: - for standard input) as SVG,
                                         north up, with the number of each side, in the order in which the fence is held,
                                         and every area that is held at some time, with its number
@@ -40,17 +47,48 @@ A flight is an object with these members, each of which may be left out:
      "armed", "rc_ok", "ekf_ok"   true or false
      "landed"            "Undefined", "OnGround", "InAir", "Takeoff" or "Landing"
   A stamp is "now_ms" unless "t_ms" says otherwise, within "position" and "gps"; elsewhere a value with a stamp of
-  its own is {"t_ms": 900, "value": true}. NaN, Infinity and -Infinity are numbers here.
+  its own is {"t_ms": 900, "value": true}. NaN, Infinity and -Infinity are numbers here. A member without a value is left
+  out: null is bad input, and so is a member that is given twice.
 
-Exit status 1: bad input, with what is wrong and where. 2: bad usage.
+Counting landings. A FLIGHT is a file of Decision frames (kind 4 or 6), one file a flight, as `decide` or a host records them.
+  A landing is an entry into Land: a step shows Land, and the step before it did not, or there was none.
+  It counts under its first reason, that of the step that enters. Where its last reason is another, a row below tells it; one
+  that only stood in between is not told.
+  A landing stands in one column alone. Before the first position: Land is entered before any Decision of the flight has
+  position_valid, as a first step does with nothing read yet. This comes first; else in refused flights: the file ends with a
+  refusal (kind 255); else in cut-off flights: the file ends within a frame; else it is a landing of a whole flight.
+  The steps are parted alike, and the flights by their end. Each flight that is refused, cut off or without a position is listed.
+  A reason without a landing has no row. In the CSV "row" tells what a row is: rows "reason" add up to "in all", and a row
+  "last" is a part of its reason's.
+  Of a Decision only its head, action, reason and position_valid are read. A file that is empty, given twice or no recorded
+  flight is bad input, and then nothing is counted; a refused or cut-off flight is none, and the status stays 0.
+
+The CSV of Decisions has a column for each field of include/failsafe.h, and one for each slot of active: the slot's action,
+  empty where there is no request (and "Reason:Action" should the slot hold another reason than its own, which no step writes).
+  What is absent is empty, as is side in kind 4; flags are true or false; a float has the digits that give it back.
+
+A log has a line of column names, then a row for each telemetry. now_ms is wanted; the rest may be left out or empty, and is then absent:
+  now_ms  position.t_ms  position.pos.north .east .down  position.vel.north .east .down  gps.t_ms  gps.fix  gps.sats  gps.hdop
+  battery.voltage_v  battery.percent  battery.remaining_wh  gcs_heartbeat_ms  armed  landed  rc_ok  ekf_ok
+  and, for each of these but gcs_heartbeat_ms, its stamp, as armed.t_ms. Values are as in a flight's JSON; 1 and 0 are flags too.
+  A stamp is now_ms where it is empty, and a velocity 0 where all three are; other columns are refused.
+
+Text is UTF-8 without a byte order mark, and no input may be empty. Exit status 1: bad input, with what is wrong and where, or an
+output that is closed or full. 2: bad usage. --help shows this text.
 """
+import codecs
+import csv
+import errno
+import io
 import json
 import math
+import os
 import struct
 import sys
 
 CONFIG, FENCE, TELEMETRY, DECISION, STATE, DECISION_SIDE, AREA, FENCE_ONCE_ROUND, AREAS, REFUSAL = 1, 2, 3, 4, 5, 6, 7, 8, 13, 255
 FENCES = (FENCE, FENCE_ONCE_ROUND)
+DECISIONS = (DECISION, DECISION_SIDE)
 AREA_SIDE, NO_SIDE = 254, 255
 KINDS = {CONFIG: "Config", FENCE: "Fence", FENCE_ONCE_ROUND: "Fence of kind 8", TELEMETRY: "Telemetry", DECISION: "Decision", STATE: "State",
          DECISION_SIDE: "Decision with its side", AREA: "Area", AREAS: "Areas", REFUSAL: "Refusal"}
@@ -91,6 +129,13 @@ CONFIG_FIELDS = [
     ("k_wind", "f32", 1.25), ("v_climb", "f32", 2.0), ("p_climb", "f32", 400.0), ("v_desc", "f32", 1.5), ("p_desc", "f32", 300.0),
     ("h_rtl", "f32", 30.0), ("reserve_wh", "f32", 8.0), ("v_max", "f32", 25.0),
 ]
+# A Decision in declared order: its name, its type. A "?" may be absent.
+DECISION_FIELDS = [
+    ("action", "action"), ("reason", "reason"), ("requested", "action"), ("active", "slots"), ("position_valid", "flag"),
+    ("clock_fault", "flag"), ("energy.rtl_wh", "f32"), ("energy.land_wh", "f32"), ("energy.reserve_wh", "f32"),
+    ("energy.remaining_wh", "f32?"), ("energy.margin_wh", "f32?"), ("energy.insufficient_for_landing", "flag"),
+    ("fence_dist_m", "f32?"), ("side", "side"), ("disarm_eligible", "flag"),
+]
 DEFAULT_CORNERS = [[-500, -500], [-500, 500], [500, 500], [500, -500]]
 TIMERS_FIRST = ["gcs_clear_timer", "rc_clear_timer", "gps_deg_set", "gps_deg_clear", "gps_lost_set", "gps_lost_clear",
                 "ekf_set", "ekf_clear", "fence_breach_set", "fence_breach_clear", "alt_max_set", "alt_max_clear",
@@ -100,6 +145,18 @@ TIMERS_FIRST = ["gcs_clear_timer", "rc_clear_timer", "gps_deg_set", "gps_deg_cle
 
 class Bad(Exception):
     """Bad input: what is wrong, and where."""
+
+
+def with_place(where, work):
+    """What work answers; where it is bad input, with its place: a file, a byte, a line."""
+    try:
+        return work()
+    except Bad as bad:
+        raise Bad(f"{where}: {bad}") from None
+
+
+def named(path):
+    return "standard input" if path == "-" else path
 
 
 # ---- packing
@@ -372,10 +429,15 @@ def show_config(body):
     return "Config: the defaults" + (", but for " + ", ".join(changed) if changed else "")
 
 
-def show_fence(body):
+def read_fence(body):
+    """A fence's lowest and highest altitude, and its corners."""
     count, low, high = body.u8(), body.f32(), body.f32()
-    corners = [numbers([body.f32(), body.f32()]) for _ in range(count)]
-    return f"{KINDS[body.kind]}: {number(low)} to {number(high)} m, {count} corners {' '.join(corners)}".rstrip()
+    return low, high, [(body.f32(), body.f32()) for _ in range(count)]
+
+
+def show_fence(body):
+    low, high, corners = read_fence(body)
+    return f"{KINDS[body.kind]}: {number(low)} to {number(high)} m, {len(corners)} corners {' '.join(map(numbers, corners))}".rstrip()
 
 
 def read_area(body):
@@ -435,23 +497,29 @@ def show_side(side, corners):
     return f"side {side}"
 
 
-def show_decision(body, time, corners):
-    action, reason, requested = body.name(ACTIONS), body.name(REASONS), body.name(ACTIONS)
-    requests = []
-    for _ in range(19):
-        slot = body.option(2, lambda: (body.name(REASONS), body.name(ACTIONS)))
-        if slot is not None:
-            requests.append(f"{slot[0]}:{slot[1]}")
-    valid, fault = body.flag(), body.flag()
-    body.take(12)
-    body.option(4, body.f32)
-    margin = body.option(4, body.f32)
-    short, distance = body.flag(), body.option(4, body.f32)
-    sides = [show_side(body.u8(), corners)] if body.kind == DECISION_SIDE else []
-    eligible = body.flag()
-    line = f"{time} {action:14} {reason:19} requested {requested:14} position {'valid' if valid else 'none':5} "
-    line += f"distance {number(distance, ' m'):>11} margin {number(margin, ' Wh'):>12}"
-    notes = sides + ["clock fault"] * fault + ["too little to land"] * short + ["may disarm"] * eligible
+def read_slot(body):
+    """A slot of active: a reason and an action, or None."""
+    return body.option(2, lambda: (body.name(REASONS), body.name(ACTIONS)))
+
+
+def read_decision(body):
+    """A Decision's fields by name. Its side is None in kind 4."""
+    read = {"action": lambda: body.name(ACTIONS), "reason": lambda: body.name(REASONS), "flag": body.flag, "f32": body.f32,
+            "f32?": lambda: body.option(4, body.f32), "slots": lambda: [read_slot(body) for _ in REASONS],
+            "side": lambda: body.u8() if body.kind == DECISION_SIDE else None}
+    decision = {name: read[kind]() for name, kind in DECISION_FIELDS}
+    body.end()
+    return decision
+
+
+def show_decision(decision, time, corners):
+    line = f"{time} {decision['action']:14} {decision['reason']:19} requested {decision['requested']:14} "
+    line += f"position {'valid' if decision['position_valid'] else 'none':5} "
+    line += f"distance {number(decision['fence_dist_m'], ' m'):>11} margin {number(decision['energy.margin_wh'], ' Wh'):>12}"
+    notes = [] if decision["side"] is None else [show_side(decision["side"], corners)]
+    notes += ["clock fault"] * decision["clock_fault"] + ["too little to land"] * decision["energy.insufficient_for_landing"]
+    notes += ["may disarm"] * decision["disarm_eligible"]
+    requests = [":".join(slot) for slot in decision["active"] if slot is not None]
     if requests:
         notes.append("requests " + " ".join(requests))
     return (line + ("  " + ", ".join(notes) if notes else "")).rstrip()
@@ -484,9 +552,8 @@ def show_state(body):
     return "State: " + ", ".join(told)
 
 
-def split(stream):
-    """The frames of a stream: place, kind, body."""
-    at = 0
+def split(stream, at=0):
+    """The frames of a stream, from this place on: place, kind, body."""
     while at < len(stream):
         if at + 2 > len(stream):
             raise Bad(f"byte {at}: the last frame is cut off (refusal 1)")
@@ -502,27 +569,378 @@ def split(stream):
         at += 2 + length
 
 
+def read_refusal(body):
+    refusal = struct.unpack("<H", body.take(2))[0]
+    return f"Refusal {refusal}: {REFUSALS.get(refusal, 'no number of document 01')}"
+
+
+def show_frame(body):
+    """A frame that is no Decision, as a line."""
+    shows = {CONFIG: show_config, FENCE: show_fence, FENCE_ONCE_ROUND: show_fence, TELEMETRY: show_telemetry, STATE: show_state,
+             AREA: show_areas, AREAS: show_areas, REFUSAL: read_refusal}
+    line = shows[body.kind](body)
+    body.end()
+    return line
+
+
 def show(stream, times, corners):
-    """A line for each frame. A Decision's time is that of its telemetry, its side one of the held corners' sides."""
-    steps = 0
+    """A line for each frame. A Decision's time is that of its telemetry, its side one of the held corners' sides.
+    Answers how many Decisions there are, and the refusals among them with their places."""
+    steps, refusals = 0, []
     for at, kind, bytes_ in split(stream):
         body = Body(kind, bytes_)
+        if kind in DECISIONS:
+            time = f"{times[steps]:>10} ms" if steps < len(times) and times[steps] is not None else f"step {steps:>5}   "
+            steps += 1
+            line = show_decision(with_place(f"byte {at}", lambda: read_decision(body)), time, corners)
+        else:
+            line = with_place(f"byte {at}", lambda: show_frame(body))
+        if kind == REFUSAL:
+            refusals.append(f"byte {at}: {line}")
+        say(line)
+    return steps, refusals
+
+
+def compare(steps, refusals, times, stepped):
+    """Bad input where Decisions are missing, or too many, or a refusal is among them. `stepped` is the file of the telemetry."""
+    told = list(refusals)
+    if steps != len(times):
+        told.append(f"{steps} Decisions, and {named(stepped)} has {len(times)} telemetries")
+    if told:
+        raise Bad("; ".join(told))
+
+
+# ---- Decisions as CSV
+
+
+def exact(x):
+    """A 32-bit float in the fewest digits, from 6, that give it back; NaN and Infinity as in JSON."""
+    if not math.isfinite(x):
+        return json.dumps(x)
+    return next(text for text in (f"{x:.{digits}g}" for digits in (6, 7, 8, 9)) if rounded(float(text)) == x)
+
+
+def cell(value):
+    """A value of a Decision as a cell: empty where it is absent."""
+    if value is None:
+        return ""
+    if isinstance(value, bool):
+        return "true" if value else "false"
+    return exact(value) if isinstance(value, float) else str(value)
+
+
+def slot_cell(slot, own):
+    """A slot's action; with its reason where that is not the slot's own."""
+    return "" if slot is None else slot[1] if slot[0] == own else ":".join(slot)
+
+
+def decision_columns():
+    names = []
+    for name, kind in DECISION_FIELDS:
+        names += [f"{name}.{reason}" for reason in REASONS] if kind == "slots" else [name]
+    return names
+
+
+def decision_cells(decision):
+    cells = []
+    for name, kind in DECISION_FIELDS:
+        value = decision[name]
+        cells += [slot_cell(slot, own) for slot, own in zip(value, REASONS)] if kind == "slots" else [cell(value)]
+    return cells
+
+
+def write_decisions(stream, times):
+    """A row for each Decision; `times` is None where no telemetry is beside them. Answers as `show` does."""
+    rows = csv.writer(output(), lineterminator="\n")
+    rows.writerow(["step"] + ["now_ms"] * (times is not None) + decision_columns())
+    steps, refusals = 0, []
+    for at, kind, bytes_ in split(stream):
+        body = Body(kind, bytes_)
+        if kind == REFUSAL:
+            refusals.append(f"byte {at}: {with_place(f'byte {at}', lambda: show_frame(body))}")
+        elif kind in DECISIONS:
+            time = [] if times is None else [cell(times[steps] if steps < len(times) else None)]
+            rows.writerow([steps] + time + decision_cells(with_place(f"byte {at}", lambda: read_decision(body))))
+            steps += 1
+        else:
+            raise Bad(f"byte {at}: {KINDS[kind]}, where a Decision is due (refusal 2)")
+    return steps, refusals
+
+
+# ---- a log's rows into telemetry
+
+
+AXES = ["north", "east", "down"]
+STAMPED = ["battery.voltage_v", "battery.percent", "battery.remaining_wh", "armed", "landed", "rc_ok", "ekf_ok"]
+
+
+def whole_cell(text):
+    return int(text) if text.isascii() and text.isdigit() and len(text) <= 10 else text
+
+
+def float_cell(text):
+    try:
+        value = float(text) if text.isascii() and "_" not in text else text
+    except ValueError:
+        return text
+    if isinstance(value, float) and math.isinf(value) and "inf" not in text.lower():
+        raise Bad(f"{text} is beyond the largest 32-bit float")
+    return value
+
+
+def flag_cell(text):
+    return {"true": True, "1": True, "false": False, "0": False}.get(text.lower(), text)
+
+
+def log_columns():
+    """A log's columns: name, where its value stands in a reading, how its text is read, how `pack` packs it."""
+    whole, real, flag = (whole_cell, pack_u32), (float_cell, pack_f32), (flag_cell, pack_flag)
+    values = {"armed": flag, "rc_ok": flag, "ekf_ok": flag, "landed": (str, pack_name(LANDED))}
+    columns = [("now_ms", ["now_ms"], *whole), ("position.t_ms", ["position", "t_ms"], *whole)]
+    columns += [(f"position.{name}.{axis}", ["position", name, axis], *real) for name in ("pos", "vel") for axis in AXES]
+    columns += [("gps.t_ms", ["gps", "t_ms"], *whole), ("gps.fix", ["gps", "fix"], str, pack_name(FIXES)),
+                ("gps.sats", ["gps", "sats"], whole_cell, pack_u8), ("gps.hdop", ["gps", "hdop"], *real)]
+    for name in STAMPED:
+        columns += [(name, name.split(".") + ["value"], *values.get(name, real)), (f"{name}.t_ms", name.split(".") + ["t_ms"], *whole)]
+    return columns + [("gcs_heartbeat_ms", ["gcs_heartbeat_ms"], *whole)]
+
+
+def needed_with(name):
+    """The columns without which a value in this one has no meaning."""
+    if name.startswith("position."):
+        own = [f"position.vel.{axis}" for axis in AXES] if ".vel." in name else []
+        return own + [f"position.pos.{axis}" for axis in AXES]
+    if name.startswith("gps."):
+        return ["gps.fix"]
+    return ["now_ms", name[:-5]] if name.endswith(".t_ms") else ["now_ms"]
+
+
+def reading_of(cells, columns):
+    """A row's cells, by column, as a reading of a flight's JSON."""
+    reading = {}
+    for name, path, read, pack in columns:
+        text = cells.get(name, "")
+        if text == "":
+            continue
+        value = with_place(f"column {name}", lambda: read(text))
+        pack(value, f"column {name}")
+        for other in needed_with(name):
+            if cells.get(other, "") == "":
+                raise Bad(f"column {other}: it is empty, and {name} is not")
+        at = reading
+        for member in path[:-1]:
+            at = at.setdefault(member, {})
+        at[path[-1]] = value
+    for name in ("pos", "vel"):
+        if name in reading.get("position", {}):
+            reading["position"][name] = list(reading["position"][name].values())
+    return reading
+
+
+def check_columns(header):
+    known = [name for name, _, _, _ in log_columns()]
+    for name in header:
+        if name not in known:
+            raise Bad(f"there is no column {json.dumps(name)}; there are {', '.join(known)}")
+        if header.count(name) > 1:
+            raise Bad(f"the column {name} is given twice")
+    if "now_ms" not in header:
+        raise Bad("the column now_ms is missing")
+
+
+def log_rows(text):
+    """The rows of a CSV, each with the line on which it ends; none for an empty line. Spaces around a cell are left out."""
+    rows = csv.reader(io.StringIO(text, newline=""), strict=True, skipinitialspace=True)
+    try:
+        for row in rows:
+            if row:
+                yield rows.line_num, [one.strip(" ") for one in row]
+    except csv.Error as error:
+        raise Bad(f"line {rows.line_num}: {error}") from None
+
+
+def telemetry_row(cells, columns):
+    reading = reading_of(cells, columns)
+    if "now_ms" not in reading:
+        raise Bad("column now_ms: it is empty")
+    return frame(TELEMETRY, telemetry_body(reading, "telemetry"))
+
+
+def pack_log(text):
+    """Telemetry frames, one for each row."""
+    rows, columns, frames = log_rows(text), log_columns(), []
+    first, header = next(rows, (1, []))
+    with_place(f"line {first}", lambda: check_columns(header))
+    for line, row in rows:
+        if len(row) != len(header):
+            raise Bad(f"line {line}: {len(row)} cells, and there are {len(header)} columns")
+        frames.append(with_place(f"line {line}", lambda: telemetry_row(dict(zip(header, row)), columns)))
+    if not frames:
+        raise Bad(f"line {first + 1}: there is no row under the columns' names")
+    return b"".join(frames)
+
+
+# ---- counting landings
+
+# The bytes of a Decision's frame by its first four; the places of what is counted, the same in both kinds, with the highest value.
+STEP_BYTES = {struct.pack("<HH", 93, DECISION): 95, struct.pack("<HH", 94, DECISION_SIDE): 96}
+REFUSAL_HEAD, REFUSAL_BYTES = struct.pack("<HH", 4, REFUSAL), 6
+COUNTED = [(4, len(ACTIONS) - 1), (5, len(REASONS) - 1), (64, 1)]
+LAND_ALONE = bytes(value == ACTIONS.index("Land") for value in range(256))
+# The columns of a count: of the table, of the CSV.
+LANDING, BEFORE, REFUSED, CUT_OFF = range(4)
+COLUMNS = [("landings", "landings"), ("before the first position", "before_first_position"),
+           ("in refused flights", "in_refused_flights"), ("in cut-off flights", "in_cut_off_flights")]
+
+
+def alike(stream):
+    """How many Decisions of the first one's kind make up the file, up to less than one more, and the bytes of each. 0 where
+    some other frame is between them."""
+    width = STEP_BYTES.get(stream[:4])
+    if width is None:
+        return 0, 1
+    count = len(stream) // width
+    same = all(stream[at:count * width:width] == stream[at:at + 1] * count for at in range(4))
+    return (count, width) if same else (0, 1)
+
+
+def steps_in(stream):
+    """Action, reason and position_valid of each step, a row of bytes each, and where the last Decision ends. A file of one kind
+    is read with a stride, which is ten times as fast as frame by frame."""
+    count, width = alike(stream)
+    at = count * width
+    rows = [bytearray(stream[place:at:width]) for place, _ in COUNTED]
+    width = STEP_BYTES.get(stream[at:at + 4], 0)
+    while width and at + width <= len(stream):
+        for row, (place, _) in zip(rows, COUNTED):
+            row.append(stream[at + place])
+        at += width
+        width = STEP_BYTES.get(stream[at:at + 4], 0)
+    if any(row.translate(None, bytes(range(most + 1))) for row, (_, most) in zip(rows, COUNTED)):
+        refuse_step(stream, 0)
+    return rows, at
+
+
+def refuse_step(stream, at):
+    """Says what is wrong with the first frame from here that is no Decision as `show` takes it."""
+    for place, kind, bytes_ in split(stream, at):
+        if kind not in DECISIONS:
+            raise Bad(f"byte {place}: {KINDS[kind]}, where a Decision is due (refusal 2)")
+        with_place(f"byte {place}", lambda: read_decision(Body(kind, bytes_)))
+
+
+def end_of(stream, at):
+    """How a flight ends whose last Decision ends here: a column, and what there is to say."""
+    rest = stream[at:]
+    if not rest:
+        return LANDING, ""
+    if rest[:4] == REFUSAL_HEAD and len(rest) >= REFUSAL_BYTES:
+        if len(rest) > REFUSAL_BYTES:
+            raise Bad(f"byte {at + REFUSAL_BYTES}: a frame after the refusal, which ends a flight")
+        return REFUSED, read_refusal(Body(REFUSAL, rest[4:]))
+    for head, width in [*STEP_BYTES.items(), (REFUSAL_HEAD, REFUSAL_BYTES)]:
+        if head.startswith(rest[:4]) and len(rest) < width:
+            return CUT_OFF, f"byte {at}: the last frame is cut off after {len(rest)} bytes"
+    refuse_step(stream, at)
+
+
+def landings_in(actions):
+    """The landings among the actions: the step that enters Land, and the last one that shows it."""
+    lands = actions.translate(LAND_ALONE)
+    at = lands.find(1)
+    while at >= 0:
+        end = lands.find(0, at)
+        end = len(lands) if end < 0 else end
+        yield at, end - 1
+        at = lands.find(1, end)
+
+
+def count_flight(name, stream):
+    """A flight: its name, how it ends, what is said of that, its steps by column, its landings as (first reason, last, column)."""
+    (actions, reasons, valid), at = steps_in(stream)
+    end, said = end_of(stream, at)
+    first = valid.find(1)
+    first = len(valid) if first < 0 else first
+    steps = [0, first, 0, 0]
+    steps[end] += len(valid) - first
+    landings = [(reasons[enters], reasons[last], BEFORE if enters < first else end) for enters, last in landings_in(actions)]
+    return name, end, said, steps, landings
+
+
+def count_by_column(columns):
+    counts = [0] * len(COLUMNS)
+    for column in columns:
+        counts[column] += 1
+    return counts
+
+
+def reason_rows(landings):
+    """The rows of the reasons, each with those of its last reasons."""
+    rows = []
+    for reason in sorted({first for first, _, _ in landings}):
+        own = [(last, column) for first, last, column in landings if first == reason]
+        rows.append(("reason", REASONS[reason], "", "", "", count_by_column(column for _, column in own)))
+        for other in sorted({last for last, _ in own} - {reason}):
+            counts = count_by_column(column for last, column in own if last == other)
+            rows.append(("last", REASONS[reason], REASONS[other], "", "", counts))
+    return rows
+
+
+def listed(flight):
+    """The row of a flight that is listed; none of any other."""
+    name, end, said, steps, landings = flight
+    row = {REFUSED: "refused flight", CUT_OFF: "cut-off flight"}.get(end, "no position" if sum(steps) == steps[BEFORE] else None)
+    counts = count_by_column(column for _, _, column in landings)
+    return [(row, "", "", name, said or "no Decision has a valid position", counts)] if row else []
+
+
+def count_rows(flights):
+    """The rows of a count: what it is, reason, last reason, flight, what is said of it, the numbers."""
+    landings = [landing for _, _, _, _, own in flights for landing in own]
+    ends = count_by_column(end for _, end, _, _, _ in flights)
+    ends[BEFORE] = ""
+    rows = reason_rows(landings)
+    rows.append(("in all", "", "", "", "", count_by_column(column for _, _, column in landings)))
+    rows.append(("flights", "", "", "", "", ends))
+    rows.append(("steps", "", "", "", "", [sum(column) for column in zip(*(steps for _, _, _, steps, _ in flights))]))
+    return rows + [row for flight in flights for row in listed(flight)]
+
+
+def count_table(rows):
+    widths = [max(12, len(name)) for name, _ in COLUMNS]
+    lines = [" " * 38 + "".join(f"  {name:>{width}}" for (name, _), width in zip(COLUMNS, widths))]
+    for row, reason, last, flight, said, counts in rows:
+        if flight:
+            lines.append(f"{row}: {flight}: {said}; landings {sum(counts) - counts[BEFORE]}, before the first position {counts[BEFORE]}")
+        else:
+            label = f"  of these, last {last}" if last else reason or row
+            lines.append(f"{label:38}" + "".join(f"  {count:>{width}}" for count, width in zip(counts, widths)))
+    return "\n".join(lines) + "\n"
+
+
+def count_csv(rows):
+    text = io.StringIO()
+    writer = csv.writer(text, lineterminator="\n")
+    writer.writerow(["row", "reason", "last_reason", "flight", "said"] + [name for _, name in COLUMNS])
+    writer.writerows([*row[:-1], *row[-1]] for row in rows)
+    return text.getvalue()
+
+
+def read_flights(paths):
+    """The flights, counted; every one that is bad input is named."""
+    flights, bad, seen = [], [], set()
+    for path in paths:
         try:
-            if kind in (DECISION, DECISION_SIDE):
-                time = f"{times[steps]:>10} ms" if steps < len(times) else f"step {steps:>5}   "
-                steps += 1
-                line = show_decision(body, time, corners)
-            elif kind == REFUSAL:
-                refusal = struct.unpack("<H", body.take(2))[0]
-                line = f"Refusal {refusal}: {REFUSALS.get(refusal, 'no number of document 01')}"
-            else:
-                shows = {CONFIG: show_config, FENCE: show_fence, FENCE_ONCE_ROUND: show_fence, TELEMETRY: show_telemetry, STATE: show_state,
-                         AREA: show_areas, AREAS: show_areas}
-                line = shows[kind](body)
-            body.end()
-        except Bad as bad:
-            raise Bad(f"byte {at}: {bad}") from None
-        print(line)
+            if os.path.realpath(path) in seen:
+                raise Bad(f"{named(path)}: it is given twice")
+            seen.add(os.path.realpath(path))
+            stream = read_frames(path)
+            flights.append(with_place(named(path), lambda: count_flight(named(path), stream)))
+        except Bad as one:
+            bad.append(str(one))
+    if bad:
+        raise Bad("\nframes.py: ".join(bad) + f"\nframes.py: nothing is counted: {len(bad)} of {len(paths)} flights can't be read")
+    return flights
 
 
 # ---- the energy of a return in whole numbers
@@ -537,10 +955,11 @@ ENERGY_NUMBERS = [
 
 
 def energy_numbers(words):
-    """The thirteen numbers, from a file or from words NAME=NUMBER."""
+    """The thirteen numbers, checked, from a file or from words NAME=NUMBER."""
     names = [name for name, _, _ in ENERGY_NUMBERS]
     if len(words) == 1 and "=" not in words[0]:
-        return members(read_flight(words[0]), "energy", names)
+        given = read_flight(words[0], "energy")
+        return with_place(named(words[0]), lambda: checked_numbers(members(given, "energy", names)))
     given = {}
     for word in words:
         name, sign, value = word.partition("=")
@@ -552,7 +971,7 @@ def energy_numbers(words):
             given[name] = int(value)
         except ValueError:
             raise Bad(f"energy.{name}: a whole number is wanted, not {json.dumps(value)}") from None
-    return given
+    return checked_numbers(given)
 
 
 def checked_numbers(given):
@@ -586,7 +1005,7 @@ def show_leg(name, factors, divisors):
     by = " x ".join(spaced(n) for n in divisors)
     if len(divisors) > 1:
         by = f"({by} = {spaced(divisor)})"
-    print(f"{name + ':':16}{' x '.join(spaced(n) for n in factors)} = {spaced(energy)}; divided by {by}: {spaced(quotient)}, remainder {spaced(remainder)}")
+    say(f"{name + ':':16}{' x '.join(spaced(n) for n in factors)} = {spaced(energy)}; divided by {by}: {spaced(quotient)}, remainder {spaced(remainder)}")
     return quotient, 1 if remainder else 0
 
 
@@ -597,23 +1016,23 @@ def less(a, b):
 
 def energy_command(words):
     (north, east, altitude, home_north, home_east, back, climb_mw, cruise_mw, descent_mw, wind,
-     climb_speed, cruise_speed, descent_speed) = checked_numbers(energy_numbers(words))
+     climb_speed, cruise_speed, descent_speed) = energy_numbers(words)
     square = (north - home_north) ** 2 + (east - home_east) ** 2
     root = math.isqrt(square)
     rest = square - root * root
     distance = root + (1 if rest else 0)
     climb, descent = max(0, back - altitude), max(altitude, back)
-    print(f"{'north:':16}{less(north, home_north)} = {spaced(north - home_north)} mm")
-    print(f"{'east:':16}{less(east, home_east)} = {spaced(east - home_east)} mm")
-    print(f"{'home distance:':16}the squares' sum is {spaced(square)}; its whole root {spaced(root)}, remainder {spaced(rest)}; so {spaced(distance)} mm")
-    print(f"{'climb height:':16}{less(back, altitude)} = {spaced(back - altitude)}{'' if climb == back - altitude else ', below 0'}; so {spaced(climb)} mm")
-    print(f"{'descent height:':16}the larger of {spaced(altitude)} and {spaced(back)}; so {spaced(descent)} mm")
+    say(f"{'north:':16}{less(north, home_north)} = {spaced(north - home_north)} mm")
+    say(f"{'east:':16}{less(east, home_east)} = {spaced(east - home_east)} mm")
+    say(f"{'home distance:':16}the squares' sum is {spaced(square)}; its whole root {spaced(root)}, remainder {spaced(rest)}; so {spaced(distance)} mm")
+    say(f"{'climb height:':16}{less(back, altitude)} = {spaced(back - altitude)}{'' if climb == back - altitude else ', below 0'}; so {spaced(climb)} mm")
+    say(f"{'descent height:':16}the larger of {spaced(altitude)} and {spaced(back)}; so {spaced(descent)} mm")
     legs = [show_leg("climb", [climb, climb_mw], [climb_speed]),
             show_leg("cruise", [distance, cruise_mw, wind], [cruise_speed, 1000]),
             show_leg("descent", [descent, descent_mw], [descent_speed])]
     ones = sum(one for _, one in legs)
     total = sum(quotient for quotient, _ in legs) + ones
-    print(f"{'total:':16}{' + '.join(spaced(quotient) for quotient, _ in legs)} + {ones} for remainders = {spaced(total)} mJ")
+    say(f"{'total:':16}{' + '.join(spaced(quotient) for quotient, _ in legs)} + {ones} for remainders = {spaced(total)} mJ")
 
 
 # ---- drawing
@@ -646,8 +1065,7 @@ def draw_area(area, ends):
 def draw_fence(body, points=(), areas=()):
     """A fence as SVG: its sides from corner to corner, and each side's number a little beside its middle. Points are
     (north, east, inside); those beyond the fence's size on each side are left out. Areas are (number, corners)."""
-    count, low, high = body.u8(), body.f32(), body.f32()
-    sent = [(body.f32(), body.f32()) for _ in range(count)]
+    low, high, sent = read_fence(body)
     if not drawable(sent):
         raise Bad("a fence of 3 corners or more, each within ±10,000 m, can be drawn")
     corners = held(sent)
@@ -743,12 +1161,7 @@ def checked_frames(path):
     frames = []
     for at, kind, bytes_ in frames_of(path):
         if kind == TELEMETRY:
-            body = Body(kind, bytes_)
-            try:
-                show_telemetry(body)
-                body.end()
-            except Bad as bad:
-                raise Bad(f"{path}: byte {at}: {bad}") from None
+            with_place(f"{named(path)}: byte {at}", lambda: show_frame(Body(kind, bytes_)))
         frames.append((kind, bytes_))
     return frames
 
@@ -763,13 +1176,13 @@ def merge_flights(first, second):
     a, b = telemetry_in(whole), telemetry_in(checked_frames(second))
     before = [body for kind, body in whole if kind not in (TELEMETRY, AREAS)]
     if len(before) != 2 or len(before[0]) != 242:
-        raise Bad(f"{first}: a configuration and a fence are wanted before the telemetry")
+        raise Bad(f"{named(first)}: a configuration and a fence are wanted before the telemetry")
     if len(a) != len(b):
-        raise Bad(f"{first} has {len(a)} telemetries and {second} has {len(b)}")
+        raise Bad(f"{named(first)} has {len(a)} telemetries and {named(second)} has {len(b)}")
     capacity = struct.unpack_from("<f", before[0], 1)[0]
     for k, (x, y) in enumerate(zip(a, b)):
         if x[:4] != y[:4]:
-            raise Bad(f"telemetry[{k}].now_ms: the two radios' differ (refusal 38)")
+            raise Bad(f"{named(first)} and {named(second)}: telemetry[{k}].now_ms: the two radios' differ (refusal 38)")
     merged = (merge_bodies(x, y, capacity) for x, y in zip(a, b))
     return b"".join(frame(kind, next(merged) if kind == TELEMETRY else body) for kind, body in whole)
 
@@ -778,13 +1191,48 @@ def merge_flights(first, second):
 
 
 def read_bytes(path):
+    """A file's bytes, of which there is at least one."""
     try:
         if path == "-":
-            return sys.stdin.buffer.read()
-        with open(path, "rb") as file:
-            return file.read()
+            if sys.stdin is None:
+                raise Bad("standard input: it is closed")
+            bytes_ = sys.stdin.buffer.read()
+        else:
+            with open(path, "rb") as file:
+                bytes_ = file.read()
     except OSError as error:
-        raise Bad(f"{path}: {error.strerror}") from None
+        raise Bad(f"{named(path)}: {error.strerror}") from None
+    if not bytes_:
+        raise Bad(f"{named(path)}: byte 0: it is empty")
+    return bytes_
+
+
+def has_mark(bytes_):
+    """Whether a byte order mark is at the front. No frame begins so but with a kind that is none."""
+    utf16 = bytes_.startswith((codecs.BOM_UTF16_LE, codecs.BOM_UTF16_BE)) and bytes_[2:4] not in [struct.pack("<H", kind) for kind in KINDS]
+    return utf16 or bytes_.startswith(codecs.BOM_UTF8)
+
+
+def is_text(bytes_):
+    """Whether these are a flight's JSON and no frames: of a frame's first four bytes one is 0, as every kind is below 256."""
+    return has_mark(bytes_) or 0 not in bytes_[:4] and bytes_.lstrip(b" \t\r\n")[:1] in (b"{", b"[")
+
+
+def read_frames(path):
+    """The bytes of a file of frames."""
+    bytes_ = read_bytes(path)
+    if is_text(bytes_):
+        raise Bad(f"{named(path)}: byte 0: this is text, and frames are wanted")
+    return bytes_
+
+
+def decoded(path, bytes_):
+    if has_mark(bytes_):
+        raise Bad(f"{named(path)}: byte 0: a byte order mark; UTF-8 without one is wanted")
+    try:
+        return bytes_.decode()
+    except UnicodeDecodeError as error:
+        raise Bad(f"{named(path)}: byte {error.start}: not a text file in UTF-8") from None
 
 
 def written_float(text):
@@ -795,52 +1243,86 @@ def written_float(text):
     return value
 
 
-def read_flight(path):
-    return parse_flight(path, read_bytes(path))
+def plain(value, where):
+    """A parsed value, with its objects as dicts: without null, and without a member that is given twice. An object is a
+    tuple of its members before."""
+    if value is None:
+        raise Bad(f"{where or 'flight'}: it is missing: null is no value, and what is absent is left out")
+    if isinstance(value, list):
+        return [plain(member, f"{where}[{k}]") for k, member in enumerate(value)]
+    if not isinstance(value, tuple):
+        return value
+    found = {}
+    for name, member in value:
+        place = f"{where}.{name}" if where else name
+        if name in found:
+            raise Bad(f"{place}: it is given twice")
+        found[name] = plain(member, place)
+    return found
 
 
-def parse_flight(path, bytes_):
+def read_flight(path, where=""):
+    return parse_flight(path, read_bytes(path), where)
+
+
+def parse_flight(path, bytes_, where=""):
+    """A file's JSON. `where` is the name of its whole, in front of each member's."""
+    text = decoded(path, bytes_)
+    if not text.strip():
+        raise Bad(f"{named(path)}: line 1: there is nothing but blanks")
     try:
-        return json.loads(bytes_.decode(), parse_float=written_float)
-    except UnicodeDecodeError:
-        raise Bad(f"{path}: not a text file") from None
+        return with_place(named(path), lambda: plain(json.loads(text, parse_float=written_float, object_pairs_hook=tuple), where))
     except json.JSONDecodeError as error:
-        raise Bad(f"{path}: line {error.lineno}, column {error.colno}: {error.msg}") from None
+        raise Bad(f"{named(path)}: line {error.lineno}, column {error.colno}: {error.msg}") from None
     except RecursionError:
-        raise Bad(f"{path}: nested too deeply") from None
+        raise Bad(f"{named(path)}: nested too deeply") from None
     except ValueError:
-        raise Bad(f"{path}: a number has too many digits") from None
+        raise Bad(f"{named(path)}: a number has too many digits") from None
+
+
+def packed_flight(path, bytes_):
+    flight = parse_flight(path, bytes_)
+    return with_place(named(path), lambda: pack_flight(flight))
 
 
 def frames_of(path):
     """The frames of a flight, from its JSON or its frames."""
     bytes_ = read_bytes(path)
-    if bytes_[:1] in (b"{", b" ", b"\n"):
-        bytes_ = pack_flight(parse_flight(path, bytes_))
-    return split(bytes_)
+    if is_text(bytes_):
+        bytes_ = packed_flight(path, bytes_)
+    return with_place(named(path), lambda: list(split(bytes_)))
 
 
-def times_of(path):
-    """The clock readings of a flight."""
-    return [struct.unpack_from("<I", body)[0] for _, kind, body in frames_of(path) if kind == TELEMETRY and len(body) >= 4]
+def times_in(frames):
+    """The clock reading of each telemetry; None where its frame is too short to have one."""
+    return [struct.unpack_from("<I", body)[0] if len(body) >= 4 else None for _, kind, body in frames if kind == TELEMETRY]
 
 
-def corners_of(path):
+def corners_in(frames):
     """The corners of a flight's fence, as they are held; none where there is no fence."""
-    for _, kind, bytes_ in frames_of(path):
+    for at, kind, bytes_ in frames:
         if kind in FENCES:
             body = Body(kind, bytes_)
-            count = body.u8()
-            body.take(8)
-            return held([(body.f32(), body.f32()) for _ in range(count)])
+            return held(with_place(f"byte {at}", lambda: read_fence(body))[2])
     return []
 
 
 def pack_command(words):
-    write_bytes(pack_flight(read_flight(words[0])), words[1:])
+    write_bytes(packed_flight(words[0], read_bytes(words[0])), words[1:])
 
 
-def write_bytes(bytes_, to):
+def output():
+    """Standard output, unless it is closed."""
+    if sys.stdout is None:
+        raise OSError(errno.EBADF, "it is closed")
+    return sys.stdout
+
+
+def say(line):
+    print(line, file=output())
+
+
+def write_bytes(bytes_, to=()):
     """Into the file that is named, or to standard output."""
     if to:
         try:
@@ -849,7 +1331,7 @@ def write_bytes(bytes_, to):
         except OSError as error:
             raise Bad(f"{to[0]}: {error.strerror}") from None
     else:
-        sys.stdout.buffer.write(bytes_)
+        output().buffer.write(bytes_)
 
 
 def areas_of(frames):
@@ -858,53 +1340,50 @@ def areas_of(frames):
     for at, kind, bytes_ in frames:
         if kind in (AREA, AREAS):
             body = Body(kind, bytes_)
-            with_place(at, lambda: areas.extend(area for area in read_areas(body) if area not in areas))
+            with_place(f"byte {at}", lambda: areas.extend(area for area in read_areas(body) if area not in areas))
     for area, corners in areas:
         if not drawable(corners):
             raise Bad(f"area {area}: an area of 3 corners or more, each within ±10,000 m, can be drawn")
     return areas
 
 
-def with_place(at, work):
-    """What work answers; where it is bad input, with the frame's place."""
-    try:
-        return work()
-    except Bad as bad:
-        raise Bad(f"byte {at}: {bad}") from None
-
-
-def draw(path, points=()):
-    """The fence of a flight or of frames as SVG, with its areas."""
-    frames = list(frames_of(path))
+def draw_frames(frames, points):
     for at, kind, bytes_ in frames:
         if kind in FENCES:
             body = Body(kind, bytes_)
             areas = areas_of(frames)
-            drawn = with_place(at, lambda: draw_fence(body, points, areas))
-            with_place(at, body.end)
+            drawn = with_place(f"byte {at}", lambda: draw_fence(body, points, areas))
+            with_place(f"byte {at}", body.end)
             return drawn.encode()
-    raise Bad(f"{path}: there is no fence")
+    raise Bad("there is no fence")
+
+
+def draw(path, points=()):
+    """The fence of a flight or of frames as SVG, with its areas."""
+    frames = frames_of(path)
+    return with_place(named(path), lambda: draw_frames(frames, points))
 
 
 def draw_command(words):
     write_bytes(draw(words[0]), words[1:])
 
 
+def point_of(line):
+    try:
+        north, east = [float32_of(float(word)) for word in line.split()]
+    except ValueError:
+        raise Bad("two numbers are wanted, north and east") from None
+    return north, east
+
+
+def float32_of(x):
+    return struct.unpack("<f", pack_f32(x, "a number"))[0]
+
+
 def points_of(path):
     """The points of a text: a line of north and east each."""
-    points = []
-    try:
-        text = read_bytes(path).decode()
-    except UnicodeDecodeError:
-        raise Bad(f"{path}: not a text file") from None
-    for at, line in enumerate(text.splitlines(), 1):
-        words = line.split()
-        try:
-            north, east = [struct.unpack("<f", pack_f32(float(word), f"line {at}"))[0] for word in words]
-        except ValueError:
-            raise Bad(f"{path}: line {at}: two numbers are wanted, north and east") from None
-        points.append((north, east))
-    return points
+    text = decoded(path, read_bytes(path))
+    return [with_place(f"{named(path)}: line {at}", lambda: point_of(line)) for at, line in enumerate(text.splitlines(), 1)]
 
 
 def points_command(words):
@@ -922,44 +1401,97 @@ def merge_command(words):
     write_bytes(merge_flights(words[0], words[1]), words[2:])
 
 
-def show_command(words):
-    times, corners = [], []
-    if "--input" in words:
-        at = words.index("--input")
-        times, corners = times_of(words[at + 1]), corners_of(words[at + 1])
-        words = words[:at] + words[at + 2:]
-    show(read_bytes(words[0] if words else "-"), times, corners)
+def input_of(path):
+    """What --input gives: the times of the telemetry, and the fence's corners."""
+    frames = frames_of(path)
+    return times_in(frames), with_place(named(path), lambda: corners_in(frames))
+
+
+def show_command(words, stepped=None):
+    times, corners = input_of(stepped) if stepped else ([], [])
+    path = words[0] if words else "-"
+    stream = read_frames(path)
+    steps, refusals = with_place(named(path), lambda: show(stream, times, corners))
+    if stepped:
+        with_place(named(path), lambda: compare(steps, refusals, times, stepped))
+
+
+def csv_command(words, stepped=None):
+    times = input_of(stepped)[0] if stepped else None
+    path = words[0] if words else "-"
+    stream = read_frames(path)
+    steps, refusals = with_place(named(path), lambda: write_decisions(stream, times))
+    with_place(named(path), lambda: compare(steps, refusals, [None] * steps if times is None else times, stepped))
+
+
+def telemetry_command(words):
+    text = decoded(words[0], read_bytes(words[0]))
+    write_bytes(with_place(named(words[0]), lambda: pack_log(text)), words[1:])
+
+
+def count_command(words, as_csv=None):
+    rows = count_rows(read_flights(words))
+    write_bytes((count_csv if as_csv else count_table)(rows).encode(errors="surrogateescape"))
+
+
+# Each command: its function, the fewest and the most words after its name, an option, the words that the option takes.
+COMMANDS = {"pack": (pack_command, 1, 2, None, 0), "show": (show_command, 0, 1, "--input", 1), "draw": (draw_command, 1, 2, None, 0),
+            "points": (points_command, 1, 2, None, 0), "map": (map_command, 3, 4, None, 0), "energy": (energy_command, 1, math.inf, None, 0),
+            "merge": (merge_command, 2, 3, None, 0), "count": (count_command, 1, math.inf, "--csv", 0),
+            "csv": (csv_command, 0, 1, "--input", 1), "telemetry": (telemetry_command, 1, 2, None, 0)}
+
+
+def command_of(words):
+    """What the words ask for, as a function without arguments; None where they are bad usage."""
+    if "--help" in words or "-h" in words:
+        return lambda: say(__doc__)
+    command, least, most, option, takes = COMMANDS.get(words[0] if words else "", (None, 0, 0, None, 0))
+    rest, given = words[1:], []
+    if option in rest:
+        at = rest.index(option)
+        given = rest[at + takes:at + takes + 1]
+        rest = rest[:at] + rest[at + takes + 1:]
+        if not given:
+            return None
+    if command is None or not least <= len(rest) <= most or any(word.startswith("--") for word in rest + given * takes):
+        return None
+    return lambda: command(rest, *given)
+
+
+def complain(text):
+    if sys.stderr is not None:
+        print(text, file=sys.stderr)
+
+
+def flush():
+    if sys.stdout is not None:
+        sys.stdout.flush()
+
+
+def output_failed(error):
+    """What is said of an output that takes no more. Python writes the rest once more when it ends: into nothing then."""
+    if sys.stdout is not None:
+        os.dup2(os.open(os.devnull, os.O_WRONLY), sys.stdout.fileno())
+    why = "it was closed before all was written" if isinstance(error, BrokenPipeError) else error.strerror
+    return f"standard output: {why}"
 
 
 def main(words):
-    flags = words.count("--input")
-    if words[:1] == ["pack"] and len(words) in (2, 3):
-        command = pack_command
-    elif words[:1] == ["draw"] and len(words) in (2, 3):
-        command = draw_command
-    elif words[:1] == ["points"] and len(words) in (2, 3):
-        command = points_command
-    elif words[:1] == ["map"] and len(words) in (4, 5):
-        command = map_command
-    elif words[:1] == ["show"] and flags <= 1 and words[-1] != "--input" and len(words) <= 2 + 2 * flags:
-        command = show_command
-    elif words[:1] == ["energy"] and len(words) > 1:
-        command = energy_command
-    elif words[:1] == ["merge"] and len(words) in (3, 4):
-        command = merge_command
-    else:
-        print(__doc__, file=sys.stderr)
+    command = command_of(words)
+    if command is None:
+        complain(__doc__)
         return 2
-    try:
-        command(words[1:])
-        sys.stdout.flush()
-    except Bad as bad:
-        sys.stdout.flush()
-        print(f"frames.py: {bad}", file=sys.stderr)
-        return 1
-    except BrokenPipeError:
-        sys.stderr.close()
-    return 0
+    told = []
+    for work in (command, flush):
+        try:
+            work()
+        except Bad as bad:
+            told.append(str(bad))
+        except OSError as error:
+            told.append(output_failed(error))
+    for text in told:
+        complain(f"frames.py: {text}")
+    return 1 if told else 0
 
 
 if __name__ == "__main__":

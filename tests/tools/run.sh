@@ -1,6 +1,7 @@
 #!/usr/bin/env bash
 # tools/frames.py: packs the sample flight into the kept frames, shows the kept Decisions as the kept text, and says
-# what is wrong with bad input; a flight with a keep-out area too. Where the crate decide is there, the samples' Decisions are made anew by it.
+# what is wrong with bad input; a flight with a keep-out area too. It counts the landings of a kept day, writes Decisions as CSV and
+# packs a log. Where the crate decide is there, the samples' Decisions are made anew by it.
 set -u
 top=$(cd "$(dirname "${BASH_SOURCE[0]}")/../.." && pwd)
 cd "$top" || exit 1
@@ -25,13 +26,14 @@ done
 
 # A Decision of kind 6: kind 4's frame with a side put in.
 { printf '\136\0\6\0' && head -c 94 samples/decisions.frames | tail -c 90 && printf '\2' && head -c 95 samples/decisions.frames | tail -c 1; } >"$build/side.frames"
-tools/frames.py show "$build/side.frames" --input samples/flight.json >"$build/side.txt" || fail "a Decision with its side is not shown"
+echo '{"telemetry": [{"now_ms": 1000}]}' >"$build/one.json"
+tools/frames.py show "$build/side.frames" --input "$build/one.json" >"$build/side.txt" || fail "a Decision with its side is not shown"
 grep -qF 'side 2 from (-500, 500) to (-500, -500)' "$build/side.txt" || fail "the side is shown otherwise: $(cat "$build/side.txt")"
 tools/frames.py show "$build/side.frames" | grep -qF 'side 2' || fail "the side is not shown without a fence"
 
 # The same where an area is nearest.
 { head -c 94 "$build/side.frames" && printf '\376' && tail -c 1 "$build/side.frames"; } >"$build/area_side.frames"
-tools/frames.py show "$build/area_side.frames" --input samples/flight.json | grep -q '  an area$' || fail "a Decision with an area is shown otherwise"
+tools/frames.py show "$build/area_side.frames" --input "$build/one.json" | grep -q '  an area$' || fail "a Decision with an area is shown otherwise"
 
 # A crane goes up and comes down: its area, in a frame before the telemetry from which it is held and one before that from which it is not.
 tools/frames.py pack samples/crane.json "$build/crane.frames" || fail "the crane does not pack"
@@ -63,7 +65,144 @@ tools/frames.py draw - <"$build/star.frames" | cmp - "$build/star.svg" || fail "
 grep -m 1 '<line ' "$build/star.svg" | grep -q 'x1="473.3" y1="473.3" x2="40.0" y2="213.3"' || fail "side 0 of a star is another"
 tools/frames.py draw samples/flight.frames | python3 -c 'import sys, xml.etree.ElementTree as x; x.parse(sys.stdin)' || fail "the sample's fence is not drawn"
 
-# Each: what is bad, what the message has to say.
+# A file with a fence of 14 corners alone begins with the byte of a brace, and is frames all the same.
+python3 - "$build/fence14.json" <<'END'
+import json, math, sys
+corners = [[round(400 * math.cos(k * math.pi / 7)), round(400 * math.sin(k * math.pi / 7))] for k in range(14)]
+json.dump({"fence": {"corners": corners}}, open(sys.argv[1], "w"))
+END
+tools/frames.py pack "$build/fence14.json" | tail -c +247 >"$build/fence14.frames"
+tools/frames.py draw "$build/fence14.frames" | cmp - <(tools/frames.py draw "$build/fence14.json") || fail "a fence of 14 corners alone is not drawn"
+# Blanks before the brace are JSON's, a tab too.
+{ printf '\t\r\n' && cat "$build/star.json"; } >"$build/tab.json"
+tools/frames.py draw "$build/tab.json" | cmp - "$build/star.svg" || fail "a star after a tab is drawn otherwise"
+
+# The landings of a day: a whole flight, one with Land before its first position, a refused one, one that is cut off.
+day="samples/decisions.frames samples/day/cut_off.frames samples/day/log.frames samples/day/refused.frames"
+head -c 1750 samples/day/log.frames | cmp - samples/day/cut_off.frames || fail "the cut-off flight is another"
+{ head -c 3515 samples/day/log.frames && printf '\4\0\377\0\4\0'; } | cmp - samples/day/refused.frames || fail "the refused flight is another"
+tools/frames.py count $day | diff - samples/day.txt || fail "the day is counted otherwise"
+tools/frames.py count $day --csv | diff - samples/day.csv || fail "the day's CSV is another"
+# The same day with every other Decision as kind 6 counts alike.
+sided() { # FILE
+    python3 - "$1" <<'END'
+import sys
+stream, at, step = open(sys.argv[1], "rb").read(), 0, 0
+while stream[at:at + 3] == b"]\0\4" and at + 95 <= len(stream):
+    one, at, step = stream[at:at + 95], at + 95, step + 1
+    sys.stdout.buffer.write(b"^\0\6\0" + one[4:94] + b"\0" + one[94:] if step % 2 else one)
+sys.stdout.buffer.write(stream[at:])
+END
+}
+for flight in $day; do
+    sided "$flight" >"$build/$(basename "$flight")"
+done
+(cd "$build" && "$top/tools/frames.py" count decisions.frames cut_off.frames log.frames refused.frames) | grep -v flight: | diff - <(grep -v flight: samples/day.txt) ||
+    fail "a day with both kinds of Decisions is counted otherwise"
+head -c 190 samples/day/log.frames | tools/frames.py count - | tail -n 1 |
+    grep -qx 'no position: standard input: no Decision has a valid position; landings 0, before the first position 1' || fail "a flight without a position is not listed"
+# Beside a look at every row of the CSV of Decisions, on a flight of both kinds with many landings.
+python3 - "$build/many.frames" <<'END'
+import random, sys
+random.seed(20261117)
+one = open("samples/decisions.frames", "rb").read(95)
+with open(sys.argv[1], "wb") as file:
+    for step in range(3000):
+        told = bytes([random.choice([0, 1, 4, 4, 4]), random.randrange(19)]) + one[6:64] + bytes([step > 40 and random.randrange(2)]) + one[65:94]
+        file.write(b"^\0\6\0" + told + b"\0" + one[94:] if step % 7 == 3 else one[:4] + told + one[94:])
+END
+tools/frames.py csv "$build/many.frames" >"$build/many.csv" || fail "a flight of both kinds is no CSV"
+awk -F, 'NR > 1 { land = $2 == "Land"
+    valid = valid || $24 == "true"
+    if (land && !was) { by[$3] = 1; if (valid) { after[$3]++; all++ } else { before[$3]++; early++ } }
+    was = land }
+    END { for (reason in by) printf "reason,%s,,,,%d,%d,0,0\n", reason, after[reason], before[reason]
+          printf "in all,,,,,%d,%d,0,0\n", all, early }' "$build/many.csv" | sort >"$build/many.awk"
+tools/frames.py count --csv "$build/many.frames" | grep -E '^(reason|in all),' | sort | diff - "$build/many.awk" || fail "many landings are counted otherwise"
+# A day of 340 flights of 10,000 steps counts in seconds; here a tenth of it, of both kinds in one file, which is the slow way.
+mkdir -p "$build/day"
+for k in $(seq 10 43); do
+    cat "$build"/many.frames "$build"/many.frames "$build"/many.frames >"$build/day/$k.frames"
+done
+began=$SECONDS
+tools/frames.py count "$build"/day/*.frames | grep -q '^flights  *34 ' || fail "34 flights are counted otherwise"
+[ $((SECONDS - began)) -lt 20 ] || fail "34 flights of 9,000 steps took $((SECONDS - began)) s"
+
+# Every field of every Decision as CSV.
+tools/frames.py csv samples/decisions.frames --input samples/flight.json | diff - samples/decisions.csv || fail "the Decisions' CSV is another"
+tools/frames.py csv <samples/decisions.frames | diff - <(cut -d , -f 1,3- samples/decisions.csv) || fail "without --input the CSV is another"
+
+# A flight's readings as a log pack into the same frames as from JSON, with stamps and without.
+python3 - >"$build/flight.csv" <<'END'
+import csv, json, sys
+rows = []
+for reading in json.load(open("samples/flight.json"))["telemetry"]:
+    row = {}
+    for name, value in reading.items():
+        if name == "position":
+            for part in ("pos", "vel"):
+                row.update({f"position.{part}.{axis}": x for axis, x in zip(("north", "east", "down"), value.get(part, []))})
+            row.update({"position.t_ms": value["t_ms"]} if "t_ms" in value else {})
+        elif name in ("gps", "battery"):
+            row.update({f"{name}.{part}": x for part, x in value.items()})
+        else:
+            row[name] = value
+    for name in [name for name in row if isinstance(row[name], dict)]:
+        stamped = row[name]
+        row.update({name: stamped["value"], f"{name}.t_ms": stamped["t_ms"]})
+    rows.append({name: json.dumps(x) if isinstance(x, bool) else x for name, x in row.items()})
+out = csv.DictWriter(sys.stdout, sorted({name for row in rows for name in row}))
+out.writeheader()
+out.writerows(rows)
+END
+tools/frames.py telemetry "$build/flight.csv" | cmp - <(tail -c +292 samples/flight.frames) || fail "a log packs into other frames"
+echo '{"telemetry": [{"now_ms": 9, "position": {"t_ms": 1, "pos": [1, 2.5, -3]}, "gps": {"t_ms": 2, "fix": "Fix2D", "hdop": Infinity},
+  "battery": {"voltage_v": {"t_ms": 3, "value": NaN}, "remaining_wh": 1e-3}, "armed": {"t_ms": 4, "value": false}, "landed": {"t_ms": 5, "value": "Takeoff"}}, {"now_ms": 10}]}' >"$build/stamps.json"
+printf '%s\r\n' 'now_ms, position.t_ms, "position.pos.down",position.pos.east,position.pos.north,gps.t_ms,gps.fix,gps.hdop,battery.voltage_v,battery.voltage_v.t_ms,battery.remaining_wh,armed,armed.t_ms,landed,landed.t_ms' \
+    '9,1,-3,2.5,1,2,Fix2D,Infinity,nan,3,0.001,FALSE,4,Takeoff,5' '' '10,,,,,,,,,,,,,,' >"$build/stamps.csv"
+tools/frames.py telemetry "$build/stamps.csv" | cmp - <(tools/frames.py pack "$build/stamps.json" | tail -c +292) || fail "a log with stamps packs into other frames"
+
+# show --input and csv end with status 1 where Decisions and telemetries are not as many, or a refusal is among them.
+lost() { # COMMAND FILE LINES MESSAGE
+    tools/frames.py "$1" "$2" --input samples/flight.json >"$build/out" 2>"$build/err"
+    [ $? -eq 1 ] && [ "$(wc -l <"$build/out")" -eq "$3" ] && grep -qxF -- "frames.py: $2: $4" "$build/err" || fail "$1 of $2: it says $(cat "$build/err") and not: $4"
+}
+head -c 950 samples/decisions.frames >"$build/ten.frames"
+{ cat samples/decisions.frames && head -c 95 samples/decisions.frames; } >"$build/more.frames"
+{ cat samples/decisions.frames && printf '\4\0\377\0\4\0'; } >"$build/refusal.frames"
+lost show "$build/ten.frames" 10 '10 Decisions, and samples/flight.json has 76 telemetries'
+lost show "$build/more.frames" 77 '77 Decisions, and samples/flight.json has 76 telemetries'
+lost show "$build/refusal.frames" 77 'byte 7220: Refusal 4: a value out of range'
+lost csv "$build/ten.frames" 11 '10 Decisions, and samples/flight.json has 76 telemetries'
+lost csv "$build/refusal.frames" 77 'byte 7220: Refusal 4: a value out of range'
+tools/frames.py csv "$build/refusal.frames" >/dev/null 2>&1
+[ $? -eq 1 ] || fail "a refusal is lost in the CSV"
+tools/frames.py show "$build/refusal.frames" >/dev/null || fail "without --input a refusal is a line as any other"
+
+# An output that is closed or full.
+told() { # MESSAGE STATUS
+    [ "$2" -eq 1 ] && [ "$(cat "$build/err")" = "frames.py: standard output: $1" ] || fail "with status $2 it says $(cat "$build/err") and not: $1"
+}
+for words in "pack samples/flight.json" "show samples/decisions.frames" "csv samples/decisions.frames" "count samples/decisions.frames" \
+    "telemetry samples/log.csv" "energy samples/energy.json" --help; do
+    tools/frames.py $words >&- 2>"$build/err"
+    told 'it is closed' $?
+    if [ -c /dev/full ]; then
+        tools/frames.py $words >/dev/full 2>"$build/err"
+        told 'No space left on device' $?
+    fi
+done
+for k in $(seq 20); do cat samples/decisions.frames; done >"$build/long.frames"
+{ tools/frames.py show "$build/long.frames" 2>"$build/err"; echo $? >"$build/status"; } | head -n 1 >/dev/null
+told 'it was closed before all was written' "$(cat "$build/status")"
+tools/frames.py pack samples/flight.json "$build/closed.frames" >&- || fail "pack into a file needs standard output"
+tools/frames.py show <&- 2>"$build/err"
+[ $? -eq 1 ] && grep -qx 'frames.py: standard input: it is closed' "$build/err" || fail "a closed input: it says $(cat "$build/err")"
+for words in --help -h "count --help" "show -h"; do
+    tools/frames.py $words >"$build/help" && grep -q '^  frames.py count ' "$build/help" || fail "$words shows no help"
+done
+
+# Each: what is bad, what the message has to say. Each message names the file.
 tried=0
 bad() { # COMMAND TEXT MESSAGE
     tried=$((tried + 1))
@@ -72,8 +211,72 @@ bad() { # COMMAND TEXT MESSAGE
         fail "taken, though it is bad: $2"
     elif ! grep -qF -- "$3" "$build/err"; then
         fail "$2: it says $(cat "$build/err") and not: $3"
+    elif ! head -n 1 "$build/err" | grep -qF -- "frames.py: $build/bad: "; then
+        fail "$2: it does not name the file: $(cat "$build/err")"
     fi
 }
+for command in pack show draw points energy count csv telemetry; do
+    bad $command '' 'bad: byte 0: it is empty'
+done
+for command in pack draw points energy telemetry; do
+    bad $command '\357\273\277{}' 'bad: byte 0: a byte order mark'
+    bad $command '\377\376{\0}\0' 'bad: byte 0: a byte order mark'
+done
+for command in show count csv; do
+    bad $command '\357\273\277{}' 'bad: byte 0: this is text, and frames are wanted'
+    bad $command '\t{"telemetry": []}' 'bad: byte 0: this is text, and frames are wanted'
+done
+bad pack ' \n\t' 'bad: line 1: there is nothing but blanks'
+bad draw '\t[]' 'flight: an object is wanted'
+bad draw '\t{' 'line 1, column 3'
+bad pack 'null' 'flight: it is missing: null is no value'
+bad pack '{"fence": null}' 'bad: fence: it is missing: null is no value'
+bad pack '{"telemetry": [{"now_ms": 1}, {"now_ms": 1, "gps": null}]}' 'bad: telemetry[1].gps: it is missing: null is no value'
+bad pack '{"telemetry": [{"now_ms": 1, "gps": {"fix": "None", "sats": null}}]}' 'bad: telemetry[0].gps.sats: it is missing'
+bad pack '{"fence": {"corners": [[1, null]]}}' 'bad: fence.corners[0][1]: it is missing'
+bad pack '{"telemetry": [{"now_ms": 1, "armed": true, "armed": true}]}' 'bad: telemetry[0].armed: it is given twice'
+bad pack '{"telemetry": [], "telemetry": []}' 'bad: telemetry: it is given twice'
+bad energy '{}' 'bad: energy.position_north_mm: it is missing'
+bad energy '{"wind_thousandths": 1, "wind_thousandths": 2}' 'bad: energy.wind_thousandths: it is given twice'
+bad points '1 2\n3\n' 'bad: line 2: two numbers are wanted'
+bad points '1 1e39\n' 'bad: line 1: a number: 1e+39 is beyond'
+bad csv '\2\0\15\0' 'bad: byte 0: Areas, where a Decision is due (refusal 2)'
+bad count '\2\0\15\0' 'bad: byte 0: Areas, where a Decision is due (refusal 2)'
+bad count '\2\0\11\0' 'bad: byte 0: there is no kind 9 (refusal 2)'
+bad count '\2\0\4\0' 'bad: byte 0: Decision: a body of 0 bytes is too short (refusal 3)'
+bad count '\4\0\377\0\1\0\1' 'bad: byte 6: a frame after the refusal, which ends a flight'
+bad count '\135\0\5\0' 'bad: byte 0: the last frame has 2 of 93 bytes (refusal 1)'
+bad count '\377\377\4\0\1' 'bad: byte 0: the last frame has 3 of 65535 bytes (refusal 1)'
+bad telemetry 'now_ms,gps.fx\n1,2\n' 'bad: line 1: there is no column "gps.fx"; there are now_ms, '
+bad telemetry '\tnow_ms\n1\n' 'bad: line 1: there is no column "\tnow_ms"'
+bad telemetry '\nnow_ms,armed,now_ms\n' 'bad: line 2: the column now_ms is given twice'
+bad telemetry 'armed\ntrue\n' 'bad: line 1: the column now_ms is missing'
+bad telemetry 'now_ms\n' 'bad: line 2: there is no row under'
+bad telemetry 'now_ms,armed\n1,true\n2\n' 'bad: line 3: 1 cells, and there are 2 columns'
+bad telemetry 'now_ms,armed\n1,true\n,true\n' 'bad: line 3: column now_ms: it is empty, and armed is not'
+bad telemetry 'now_ms,armed\n1,\n,\n' 'bad: line 3: column now_ms: it is empty'
+bad telemetry 'now_ms,armed\n1,yes\n' 'bad: line 2: column armed: true or false is wanted, not "yes"'
+bad telemetry 'now_ms\n1.0\n' 'bad: line 2: column now_ms: a whole number from 0 to 4294967295 is wanted, not "1.0"'
+bad telemetry 'now_ms\n4294967296\n' 'bad: line 2: column now_ms: a whole number from 0 to 4294967295'
+bad telemetry 'now_ms,gps.fix,gps.sats\n1,Fix3D,256\n' 'bad: line 2: column gps.sats: a whole number from 0 to 255'
+bad telemetry 'now_ms,gps.sats\n1,14\n' 'bad: line 2: column gps.fix: it is empty, and gps.sats is not'
+bad telemetry 'now_ms,gps.fix\n1,Fix4D\n' 'bad: line 2: column gps.fix: "Fix4D" is none of'
+bad telemetry 'now_ms,position.pos.north,position.pos.east,position.pos.down\n1,2,,3\n' 'bad: line 2: column position.pos.east: it is empty, and position.pos.north is not'
+bad telemetry 'now_ms,battery.percent.t_ms\n1,2\n' 'bad: line 2: column battery.percent: it is empty, and battery.percent.t_ms is not'
+bad telemetry 'now_ms,battery.percent\n1,1e39\n' 'bad: line 2: column battery.percent: 1e+39 is beyond'
+bad telemetry 'now_ms,battery.percent\n1,1e400\n' 'bad: line 2: column battery.percent: 1e400 is beyond'
+bad telemetry 'now_ms,battery.percent\n1,1_0\n' 'bad: line 2: column battery.percent: a number is wanted, not "1_0"'
+bad telemetry 'now_ms\n"1\n' 'bad: line 2: unexpected end of data'
+# A Decision in the middle with an action that is none; two bad flights of three, each named; a flight twice.
+{ head -c 954 samples/decisions.frames && printf '\5' && tail -c +956 samples/decisions.frames; } >"$build/action.frames"
+tools/frames.py count "$build/action.frames" samples/decisions.frames "$build/none" samples/../samples/decisions.frames >"$build/out" 2>"$build/err"
+[ $? -eq 1 ] && [ ! -s "$build/out" ] || fail "bad flights are counted"
+diff "$build/err" - <<END || fail "bad flights are named otherwise"
+frames.py: $build/action.frames: byte 950: Decision: byte 0 of the body is 5, above 4 (refusal 4)
+frames.py: $build/none: No such file or directory
+frames.py: samples/../samples/decisions.frames: it is given twice
+frames.py: nothing is counted: 3 of 4 flights can't be read
+END
 bad pack '{' 'line 1, column 2'
 bad pack '[]' 'flight: an object is wanted'
 bad pack '{"telemetry": [{}]}' 'telemetry[0].now_ms: a whole number from 0 to 4294967295 is wanted'
@@ -110,8 +313,10 @@ tools/frames.py show "$build/none" >/dev/null 2>"$build/err"
 [ $? -eq 1 ] || fail "a file that is not there is no error"
 tools/frames.py pack samples/flight.json "$build/none/flight.frames" 2>"$build/err"
 [ $? -eq 1 ] && grep -q "none/flight.frames: No such file" "$build/err" || fail "a file that can't be written: it says $(cat "$build/err")"
-tools/frames.py >/dev/null 2>&1
-[ $? -eq 2 ] || fail "no words are no error"
+for words in "" none count "count --csv" "csv --input" "show --input" "show a --input b --input c" "telemetry" "pack a b c" "count --cvs a"; do
+    tools/frames.py $words >"$build/out" 2>/dev/null </dev/null
+    [ $? -eq 2 ] && [ ! -s "$build/out" ] || fail "bad usage is no error: $words"
+done
 
 crane() { # DECIDE
     "$1" <"$build/crane.frames" | tools/frames.py show --input samples/crane.json | diff - samples/crane.txt || fail "$1 makes other Decisions of the crane"
@@ -120,6 +325,8 @@ if grep -q '^decide:' crates.txt; then
     rt check decide >"$build/check.out" 2>&1 || { cat "$build/check.out" && exit 1; }
     target/bin/decide <samples/flight.frames | cmp - samples/decisions.frames || fail "decide makes other Decisions of the sample"
     crane target/bin/decide
+    { head -c 291 "$build/absent.frames" && tools/frames.py telemetry samples/log.csv; } >"$build/log.input"
+    target/bin/decide <"$build/log.input" | cmp - samples/day/log.frames || fail "decide makes other Decisions of the log"
     [ "$(target/bin/decide <"$build/star.frames" | tools/frames.py show)" = "Refusal 33: NotOnceRound" ] || fail "decide takes a star as kind 8"
 fi
 if rust=$(oracle/run.sh --path decide 2>/dev/null) && streams=$(oracle/run.sh --path streams 2>/dev/null); then
@@ -130,5 +337,5 @@ if rust=$(oracle/run.sh --path decide 2>/dev/null) && streams=$(oracle/run.sh --
 else
     echo "left out: the Rust's Decisions of the sample, and its defaults (the Rust can't be built here)"
 fi
-[ "$failed" -eq 0 ] && echo "the samples' $(cat samples/decisions.txt samples/crane.txt | wc -l) Decisions and $tried bad inputs"
+[ "$failed" -eq 0 ] && echo "the samples' $(cat samples/decisions.txt samples/crane.txt | wc -l) Decisions, a day of 4 flights and $tried bad inputs"
 exit "$failed"
