@@ -184,6 +184,10 @@ static void telemetry_frame(uint8_t *bytes, uint32_t now, float north, uint32_t 
 }
 
 static const char *const actions[] = {"Nominal", "Warn", "Hold", "ReturnToLaunch", "Land"};
+static const char *const reasons[] = {
+    "None", "ClockFault", "InvalidInput", "StaleBattery", "GcsLinkLost", "RcLost", "GpsDegraded", "GpsLost",
+    "EkfUnhealthy", "PositionInvalid", "FenceApproach", "FenceBreach", "AltitudeMax", "AltitudeMin",
+    "BatteryWarn", "BatteryLow", "BatteryCritical", "EnergyRtlMarginal", "EnergyRtlInfeasible"};
 
 /* A step 55 m north of home, beside the areas of a frame. */
 static uint32_t step_beside(const uint8_t *config, const uint8_t *fence, uint8_t *state, uint32_t now, const uint8_t *areas)
@@ -222,8 +226,8 @@ int main(void)
             printf("%6u refused: %u\n", (unsigned)now, (unsigned)refused);
             return 1;
         }
-        printf("%6u %s, reason %u, requested %s\n", (unsigned)now, actions[output[FAILSAFE_DECISION_ACTION]],
-               output[FAILSAFE_DECISION_REASON], actions[output[FAILSAFE_DECISION_REQUESTED]]);
+        printf("%6u %s, reason %s, requested %s\n", (unsigned)now, actions[output[FAILSAFE_DECISION_ACTION]],
+               reasons[output[FAILSAFE_DECISION_REASON]], actions[output[FAILSAFE_DECISION_REQUESTED]]);
     }
 
     /* a step that is refused leaves the state as it was */

@@ -80,6 +80,10 @@ for tag, rust, told in [("action", "Action", frames.ACTIONS), ("reason", "Reason
     same(f"{rust}, crates/types and tools/frames.py", declared, told)
     same(f"{rust}, crates/types and the header", {c_name(name): i for i, name in enumerate(declared)}, enumerators(tag))
 
+for name, told in [("actions", frames.ACTIONS), ("reasons", frames.REASONS)]:
+    listed = re.search(r"\*const %s\[\] = \{(.*?)\}" % name, text("examples/host.c"), re.S).group(1)
+    same(f"{name}, tools/frames.py and examples/host.c", told, re.findall(r'"(\w+)"', listed))
+
 errors, header = refusals(), enumerators("refusal")
 same("refusals of fence and configuration in the header", {c_name(name): n for name, n in errors.items()},
      {name: n for name, n in header.items() if n in errors.values()})
