@@ -234,10 +234,12 @@ uint32_t failsafe_step_side(const uint8_t *config, size_t config_len,
                             const uint8_t *telemetry, size_t telemetry_len,
                             uint8_t *output, size_t output_len);
 
-/* The same step beside keep-out areas: `areas` is a frame of kind 13, or empty for no area. The distance in the Decision, and what the
- * fence's warning and breach look at, is then the clearance: the smaller of the fence's distance and, for each area, minus its signed
- * distance. Signed distances go to the lines of the sides, so past a corner clearance is less than the way to that corner. The side byte is
- * the fence's where the fence's distance is no larger than the rest, else 254. Areas may change between any two steps, and a flight may mix the three entries. */
+/* The same step beside keep-out areas: `areas` is a frame of kind 13, or empty for no area. The distance in
+ * the Decision, and what the fence's warning and breach look at, is then the clearance: the smaller of the
+ * fence's distance and, for each area, minus its signed distance. Signed distances go to the lines of the
+ * sides, so past a corner clearance is less than the way to that corner. The side byte is the fence's where
+ * the fence's distance is no larger than the rest, else 254. Areas may change between any two steps, and a
+ * flight may mix the three entries. */
 uint32_t failsafe_step_areas(const uint8_t *config, size_t config_len,
                              const uint8_t *fence, size_t fence_len,
                              uint8_t *state, size_t state_len,
@@ -245,24 +247,27 @@ uint32_t failsafe_step_areas(const uint8_t *config, size_t config_len,
                              uint8_t *output, size_t output_len,
                              const uint8_t *areas, size_t areas_len);
 
-/* The areas with one more: `areas` (kind 13, or empty for none) and `area` (kind 7) make the frame of kind 13 in the front of output; later
- * bytes stay. FAILSAFE_AREAS_MOST bytes are always enough; the frame's first two bytes plus 2 are its length. The corners stay as
- * they were sent, bit for bit. Refusals: those of areas as in a step, those of the area's frame (1, 3, 2, 3), those of the area (its polygon,
- * 31, 30, 32), then 5. On a refusal nothing is written, and a host goes on with the areas it has. */
+/* The areas with one more: `areas` (kind 13, or empty for none) and `area` (kind 7) make the frame of kind
+ * 13 in the front of output; later bytes stay. FAILSAFE_AREAS_MOST bytes are always enough; the frame's
+ * first two bytes plus 2 are its length. The corners stay as they were sent, bit for bit. Refusals: those of
+ * areas as in a step, those of the area's frame (1, 3, 2, 3), those of the area (its polygon, 31, 30, 32),
+ * then 5. On a refusal nothing is written, and a host goes on with the areas it has. */
 uint32_t failsafe_add_area(const uint8_t *areas, size_t areas_len,
                            const uint8_t *area, size_t area_len,
                            uint8_t *output, size_t output_len);
 
-/* The areas without the one of this number, whose place can be used again. Without the last one it is a frame of count 0, which is no
- * area for a step. Refusals: those of areas as in a step, 31 where the number is not held, then 5. */
+/* The areas without the one of this number, whose place can be used again. Without the last one it is a
+ * frame of count 0, which is no area for a step. Refusals: those of areas as in a step, 31 where the number
+ * is not held, then 5. */
 uint32_t failsafe_remove_area(const uint8_t *areas, size_t areas_len, uint8_t number,
                               uint8_t *output, size_t output_len);
 
-/* Which of a row of points are inside the fence, for a map. A point is 8 bytes: north and east, each a binary32 number, in metres from
- * home. For each point two bytes are written: 1 for inside (on a side too) or 0, and the number of sides that were read: the test
- * stops at the first side with a negative distance. Later output bytes stay. The fence is read and accepted once, and its
- * sides' lengths are worked out once. Answers 0; or, with no byte changed, the fence's refusal, 3 for points of a length that is not
- * a multiple of 8, 5 for an output under 2 bytes a point. */
+/* Which of a row of points are inside the fence, for a map. A point is 8 bytes: north and east, each a
+ * binary32 number, in metres from home. For each point two bytes are written: 1 for inside (on a side too)
+ * or 0, and the number of sides that were read: the test stops at the first side with a negative distance.
+ * Later output bytes stay. The fence is read and accepted once, and its sides' lengths are worked out once.
+ * Answers 0; or, with no byte changed, the fence's refusal, 3 for points of a length that is not a multiple
+ * of 8, 5 for an output under 2 bytes a point. */
 uint32_t failsafe_inside(const uint8_t *fence, size_t fence_len,
                          const uint8_t *points, size_t points_len,
                          uint8_t *output, size_t output_len);
@@ -275,11 +280,12 @@ uint32_t failsafe_check(const uint8_t *config, size_t config_len,
  * exactly 186 bytes. */
 uint32_t failsafe_fresh(uint8_t *state, size_t state_len);
 
-/* A test load that everyone can make: the next telemetry frame of a trial flight in the first 106 bytes of output; later bytes
- * stay. The generator is 9 bytes: x (4), now_ms (4), and a byte that is 0 before the first frame and 1 after it; the call
- * rewrites it. A host starts with the seed and five zeros. Refusals, in this order, with no byte of either buffer
- * changed: 1 for a generator of fewer bytes, 3 for one of more, 4 for a last byte above 1, 5 for an output under 106
- * bytes. It is a load, not a flight: README.md says what it reaches. */
+/* A test load that everyone can make: the next telemetry frame of a trial flight in the first 106 bytes of
+ * output; later bytes stay. The generator is 9 bytes: x (4), now_ms (4), and a byte that is 0 before the
+ * first frame and 1 after it; the call rewrites it. A host starts with the seed and five zeros. Refusals, in
+ * this order, with no byte of either buffer changed: 1 for a generator of fewer bytes, 3 for one of more, 4
+ * for a last byte above 1, 5 for an output under 106 bytes. It is a load, not a flight: README.md says what
+ * it reaches. */
 #define FAILSAFE_GENERATOR_BYTES 9
 uint32_t failsafe_trial(uint8_t *generator, size_t generator_len, uint8_t *output, size_t output_len);
 
@@ -306,22 +312,24 @@ uint32_t failsafe_trial(uint8_t *generator, size_t generator_len, uint8_t *outpu
 uint32_t failsafe_whole_energy(const uint8_t *input, size_t input_len,
                                uint8_t *output, size_t output_len);
 
-/* Writes an accepted fence of kind 8 in its one form, into the first 13 + 8 * corners bytes of output; later bytes
- * stay. It starts at the corner with least north, then least east, and goes first to the lesser of its two
- * neighbours; every -0 is written as 0. Two fences with the same altitudes and ring of corners write the same bytes.
- * Refusals: the fence's as in a step, with a kind 8 due (a kind 2 is 2); then 39 where the fence so written would
- * itself be declined, since rounding differs by corner; then 5. On a refusal nothing is written. */
+/* Writes an accepted fence of kind 8 in its one form, into the first 13 + 8 * corners bytes of output; later
+ * bytes stay. It starts at the corner with least north, then least east, and goes first to the lesser of its
+ * two neighbours; every -0 is written as 0. Two fences with the same altitudes and ring of corners write the
+ * same bytes. Refusals: the fence's as in a step, with a kind 8 due (a kind 2 is 2); then 39 where the fence
+ * so written would itself be declined, since rounding differs by corner; then 5. On a refusal nothing is
+ * written. */
 uint32_t failsafe_spell_fence(const uint8_t *fence, size_t fence_len,
                               uint8_t *output, size_t output_len);
 
-/* The telemetry frames of two radios for one step, merged into the first 106 bytes of output; later bytes stay.
- * Hand that frame to failsafe_step. Of each reading that may be absent (position, gps, voltage_v, percent,
- * remaining_wh, gcs_heartbeat_ms, armed, landed, rc_ok, ekf_ok) one radio's is taken whole: one that is present
- * before one that is absent; one within the bounds that a step sets for it (remaining_wh by the configuration's
- * capacity) before one that the step would drop; one with an age before one whose stamp lies ahead; the younger;
- * the first radio's. now_ms has to be the same in both. A NaN is written as 7FC00000.
- * Refusals, in this order: those of configuration and fence as in a step, those of the first frame, those of
- * the second, 38 where the two now_ms differ, 5 where output has under 106 bytes. No buffer has changed then. */
+/* The telemetry frames of two radios for one step, merged into the first 106 bytes of output; later bytes
+ * stay. Hand that frame to failsafe_step. Of each reading that may be absent (position, gps, voltage_v,
+ * percent, remaining_wh, gcs_heartbeat_ms, armed, landed, rc_ok, ekf_ok) one radio's is taken whole: one
+ * that is present before one that is absent; one within the bounds that a step sets for it (remaining_wh by
+ * the configuration's capacity) before one that the step would drop; one with an age before one whose stamp
+ * lies ahead; the younger; the first radio's. now_ms has to be the same in both. A NaN is written as
+ * 7FC00000. Refusals, in this order: those of configuration and fence as in a step, those of the first
+ * frame, those of the second, 38 where the two now_ms differ, 5 where output has under 106 bytes. No buffer
+ * has changed then. */
 uint32_t failsafe_merge(const uint8_t *config, size_t config_len,
                         const uint8_t *fence, size_t fence_len,
                         const uint8_t *first, size_t first_len,
