@@ -9,7 +9,11 @@ mkdir -p "$build"
 
 printf '#include "failsafe.h"\nint main(void) { return FAILSAFE_REFUSAL_NONE; }\n' >"$build/header.c"
 gcc -std=c99 -Wall -Wextra -Werror -pedantic -Iinclude -fsyntax-only "$build/header.c" || exit 1
-gcc -x c++ -std=c++11 -Wall -Wextra -Werror -pedantic -Iinclude -fsyntax-only "$build/header.c" || exit 1
+if gcc -x c++ -E /dev/null >/dev/null 2>&1; then
+    gcc -x c++ -std=c++11 -Wall -Wextra -Werror -pedantic -Iinclude -fsyntax-only "$build/header.c" || exit 1
+else
+    echo "no C++ compiler is here: the header was compiled as C99 alone"
+fi
 
 rm -rf "$build/bent"
 mkdir -p "$build/bent"
