@@ -78,6 +78,7 @@ defaultConfig =
       «h_rtl» = decimal 30 1;
       «reserve_wh» = decimal 8 1;
       «v_max» = decimal 25 1;
+      «keeps_raised» = false;
     }
 
 -- a metre number below zero

@@ -71,6 +71,8 @@ pub struct Config {
     pub h_rtl: f32,
     pub reserve_wh: f32,
     pub v_max: f32,
+    // Of kind 11: eight of the requests, once raised, stay until they are cleared. The Rust has kind 1 alone.
+    pub keeps_raised: bool,
 }
 
 impl Config {
@@ -140,6 +142,7 @@ impl Config {
             h_rtl: 30.0,
             reserve_wh: 8.0,
             v_max: 25.0,
+            keeps_raised: false,
         }
     }
 }

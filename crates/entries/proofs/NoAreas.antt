@@ -18,7 +18,7 @@ use Rattle.frame_areas.proofs.Claims.{no-area-claim}
 use Rattle.frame_areas.proofs.None.{none-held, none-refused}
 use Rattle.flight.specs.declared.Flight.{Flight}
 use Rattle.flight.specs.Flight.{orRefused, readFlight, stepFlight}
-use Rattle.entries.specs.Entry.{StepCall, declined, written, afterTelemetry, afterState, stepAny}
+use Rattle.entries.specs.Entry.{flightKeeps, StepCall, declined, written, afterTelemetry, afterState, stepAny}
 use Rattle.entries.specs.NoAreas.{NoAreasClaim}
 
 site-alone : (areas : List ℕ) → heldIn areas ≡ [] → (site : Site) → withAreas areas site ≡ site
@@ -34,7 +34,7 @@ module _ (areas : List ℕ) (e : heldIn areas ≡ []) (withSide : Bool) (f : Fli
 
   same-telemetry : (r : TelemetryRead) (s : Supervisor) (state output : List ℕ) → afterTelemetry withSide r f areas s state output ≡ afterTelemetry withSide r f [] s state output
   same-telemetry (TelemetryRead.Refused n) s state output = refl
-  same-telemetry (TelemetryRead.Frame t) s state output = ap (λ (next : Stepped). written withSide next state output) (same-step s t)
+  same-telemetry (TelemetryRead.Frame t) s state output = ap (λ (next : Stepped). written withSide (flightKeeps f) next state output) (same-step s t)
 
   same-state : (r : StateRead) (state telemetry output : List ℕ) → afterState withSide r f areas state telemetry output ≡ afterState withSide r f [] state telemetry output
   same-state (StateRead.Refused n) state telemetry output = refl
@@ -47,4 +47,4 @@ no-areas-claim = record { none-held = same; base = alone [] none-held }
     same : (areas : List ℕ) → areasFault areas ≡ 0 → heldIn areas ≡ [] → (withSide : Bool) (config fence state telemetry output : List ℕ) → stepAny withSide config fence state telemetry output areas ≡ stepAny withSide config fence state telemetry output []
     same areas ok e withSide config fence state telemetry output =
         let f = readFlight config fence in
-        λ i. cond (eqb (orRefused (f .refused) ((ok ∙ sym none-refused) i)) 0) (same-state areas e withSide f (readState state) state telemetry output i) (declined (orRefused (f .refused) ((ok ∙ sym none-refused) i)) state output)
+        λ i. cond (eqb (orRefused (f .refused) ((ok ∙ sym none-refused) i)) 0) (same-state areas e withSide f (readState (flightKeeps f) state) state telemetry output i) (declined (orRefused (f .refused) ((ok ∙ sym none-refused) i)) state output)

@@ -39,18 +39,22 @@ abbrev pub outputSize : Bool → ℕ
 outputSize false = 95
 outputSize true = 96
 
+-- document 02, L11: whether the flight's state is kind 12, its configuration being of kind 11
+abbrev pub flightKeeps : Flight → Bool
+flightKeeps f = f .cfg .«keeps_raised»
+
 -- "State and the first 95 output bytes are rewritten on success, which returns 0; later output bytes stay."
-abbrev pub succeeded : Bool → Stepped → List ℕ → StepCall
-succeeded withSide next output = record { number = 0; state = stateFrame (next .supervisor); output = outputFrame withSide (next .decision) (next .side) ++ drop (outputSize withSide) output }
+abbrev pub succeeded : Bool → Bool → Stepped → List ℕ → StepCall
+succeeded withSide keeps next output = record { number = 0; state = stateFrame keeps (next .supervisor); output = outputFrame withSide (next .decision) (next .side) ++ drop (outputSize withSide) output }
 
 -- ".. output": 5 where it is under 95 bytes
-abbrev pub written : Bool → Stepped → List ℕ → List ℕ → StepCall
-written withSide next state output = cond (ltb (length output) (outputSize withSide)) (declined 5 state output) (succeeded withSide next output)
+abbrev pub written : Bool → Bool → Stepped → List ℕ → List ℕ → StepCall
+written withSide keeps next state output = cond (ltb (length output) (outputSize withSide)) (declined 5 state output) (succeeded withSide keeps next output)
 
 -- ".. state, telemetry .."
 abbrev pub afterTelemetry : Bool → TelemetryRead → Flight → List ℕ → Supervisor → List ℕ → List ℕ → StepCall
 afterTelemetry withSide (TelemetryRead.Refused n) f areas s state output = declined n state output
-afterTelemetry withSide (TelemetryRead.Frame t) f areas s state output = written withSide (stepFlight f areas s t) state output
+afterTelemetry withSide (TelemetryRead.Frame t) f areas s state output = written withSide (flightKeeps f) (stepFlight f areas s t) state output
 
 abbrev pub afterState : Bool → StateRead → Flight → List ℕ → List ℕ → List ℕ → List ℕ → StepCall
 afterState withSide (StateRead.Refused n) f areas state telemetry output = declined n state output
@@ -62,7 +66,7 @@ refusedFirst f areas = orRefused (f .refused) (areasFault areas)
 
 abbrev pub afterFlight : Bool → Flight → List ℕ → List ℕ → List ℕ → List ℕ → StepCall
 afterFlight withSide f areas state telemetry output =
-    cond (eqb (refusedFirst f areas) 0) (afterState withSide (readState state) f areas state telemetry output) (declined (refusedFirst f areas) state output)
+    cond (eqb (refusedFirst f areas) 0) (afterState withSide (readState (flightKeeps f) state) f areas state telemetry output) (declined (refusedFirst f areas) state output)
 
 -- a call of any step entry: `withSide` is whether it writes kind 6, and `areas` is empty where it takes none
 unfoldable pub stepAny : Bool → List ℕ → List ℕ → List ℕ → List ℕ → List ℕ → List ℕ → StepCall
@@ -77,10 +81,11 @@ pub record FreshCall : Type 0 where
   pub number : ℕ
   pub state : List ℕ
 
--- "Another entry writes a fresh state frame into the first 186 bytes of a state slice; later bytes stay."
-unfoldable pub freshCall : List ℕ → FreshCall
-freshCall state =
+-- "Another entry writes a fresh state frame into the first 186 bytes of a state slice; later bytes stay." A further one writes a kind 12:
+-- "refusal 5 counts 194 bytes for a fresh one"
+unfoldable pub freshCall : Bool → List ℕ → FreshCall
+freshCall keeps state =
     record {
-      number = roomFault (stateFrame freshSupervisor) state;
-      state = frameWritten (stateFrame freshSupervisor) state;
+      number = roomFault (stateFrame keeps freshSupervisor) state;
+      state = frameWritten (stateFrame keeps freshSupervisor) state;
     }

@@ -1,13 +1,13 @@
 // The one step behind every C entry, and the fresh state: number and buffers for all bytes. The entries themselves are in `failsafe`.
 ghost use mathlib.Core.Path.{_≡_};
 ghost use mathlib.Core.List.{_++_};
-ghost use Prim.Native.Nat.{_≤_};
+ghost use Prim.Native.Nat.{_+_, _≤_};
 ghost use lib.ListN.{length, drop};
 ghost use Rattle.flight.specs.Flight.{orRefused, readFlight, stepFlight};
 ghost use Rattle.frame_areas.specs.AreasFrame.{areasFault};
-ghost use Rattle.frame_state.specs.StateFrame.{readState};
+ghost use Rattle.frame_state.specs.StateFrame.{stateLength, readState};
 ghost use Rattle.frame_telemetry.specs.TelemetryFrame.{readTelemetry};
-ghost use Rattle.entries.specs.Entry.{outputFrame, outputSize, written, afterTelemetry, afterState, stepAny, stepOrCheck, freshCall};
+ghost use Rattle.entries.specs.Entry.{flightKeeps, outputFrame, outputSize, written, afterTelemetry, afterState, stepAny, stepOrCheck, freshCall};
 use flight::Flight;
 use frame_state::StateRead;
 use frame_telemetry::TelemetryRead;
@@ -43,18 +43,19 @@ fn step_write(
     state: &mut [u8],
     output: &mut [u8],
 ) -> u32
-    requires { ⌜ length (now state) ≡ 186 ⌝ }
-    ensures { λ r. ⌜ r ≡ written «with_side» (stepFlight flight (now (areas .entry)) s t) (now (state .entry)) (now (output .entry)) .number ⌝ }
-    ensures { λ _. ⌜ now (state .exit) ≡ written «with_side» (stepFlight flight (now (areas .entry)) s t) (now (state .entry)) (now (output .entry)) .state ⌝ }
-    ensures { λ _. ⌜ now (output .exit) ≡ written «with_side» (stepFlight flight (now (areas .entry)) s t) (now (state .entry)) (now (output .entry)) .output ⌝ }
+    requires { ⌜ length (now state) ≡ 2 + stateLength (flightKeeps flight) ⌝ }
+    ensures { λ r. ⌜ r ≡ written «with_side» (flightKeeps flight) (stepFlight flight (now (areas .entry)) s t) (now (state .entry)) (now (output .entry)) .number ⌝ }
+    ensures { λ _. ⌜ now (state .exit) ≡ written «with_side» (flightKeeps flight) (stepFlight flight (now (areas .entry)) s t) (now (state .entry)) (now (output .entry)) .state ⌝ }
+    ensures { λ _. ⌜ now (output .exit) ≡ written «with_side» (flightKeeps flight) (stepFlight flight (now (areas .entry)) s t) (now (state .entry)) (now (output .entry)) .output ⌝ }
 {
     if output.len() < output_size(with_side) {
         return 5;
     }
+    let keeps = flight.cfg.keeps_raised;
     let next = flight::step_flight(flight, areas, s, t);
     let after = next.supervisor;
     let d = next.decision;
-    frame_state::write_state(state, after);
+    frame_state::write_state(state, keeps, after);
     write_output(with_side, d, next.side, output);
     0
 }
@@ -68,7 +69,7 @@ fn step_telemetry(
     telemetry: &[u8],
     output: &mut [u8],
 ) -> u32
-    requires { ⌜ length (now state) ≡ 186 ⌝ }
+    requires { ⌜ length (now state) ≡ 2 + stateLength (flightKeeps flight) ⌝ }
     ensures { λ r. ⌜ r ≡ afterTelemetry «with_side» (readTelemetry (now (telemetry .entry))) flight (now (areas .entry)) s (now (state .entry)) (now (output .entry)) .number ⌝ }
     ensures { λ _. ⌜ now (state .exit) ≡ afterTelemetry «with_side» (readTelemetry (now (telemetry .entry))) flight (now (areas .entry)) s (now (state .entry)) (now (output .entry)) .state ⌝ }
     ensures { λ _. ⌜ now (output .exit) ≡ afterTelemetry «with_side» (readTelemetry (now (telemetry .entry))) flight (now (areas .entry)) s (now (state .entry)) (now (output .entry)) .output ⌝ }
@@ -88,11 +89,11 @@ fn step_state(
     telemetry: &[u8],
     output: &mut [u8],
 ) -> u32
-    ensures { λ r. ⌜ r ≡ afterState «with_side» (readState (now (state .entry))) flight (now (areas .entry)) (now (state .entry)) (now (telemetry .entry)) (now (output .entry)) .number ⌝ }
-    ensures { λ _. ⌜ now (state .exit) ≡ afterState «with_side» (readState (now (state .entry))) flight (now (areas .entry)) (now (state .entry)) (now (telemetry .entry)) (now (output .entry)) .state ⌝ }
-    ensures { λ _. ⌜ now (output .exit) ≡ afterState «with_side» (readState (now (state .entry))) flight (now (areas .entry)) (now (state .entry)) (now (telemetry .entry)) (now (output .entry)) .output ⌝ }
+    ensures { λ r. ⌜ r ≡ afterState «with_side» (readState (flightKeeps flight) (now (state .entry))) flight (now (areas .entry)) (now (state .entry)) (now (telemetry .entry)) (now (output .entry)) .number ⌝ }
+    ensures { λ _. ⌜ now (state .exit) ≡ afterState «with_side» (readState (flightKeeps flight) (now (state .entry))) flight (now (areas .entry)) (now (state .entry)) (now (telemetry .entry)) (now (output .entry)) .state ⌝ }
+    ensures { λ _. ⌜ now (output .exit) ≡ afterState «with_side» (readState (flightKeeps flight) (now (state .entry))) flight (now (areas .entry)) (now (state .entry)) (now (telemetry .entry)) (now (output .entry)) .output ⌝ }
 {
-    match frame_state::read_state(state) {
+    match frame_state::read_state(state, flight.cfg.keeps_raised) {
         StateRead::Refused(n) => n as u32,
         StateRead::Frame(s) => step_telemetry(
             with_side,
@@ -191,11 +192,11 @@ pub fn check(config: &[u8], fence: &[u8]) -> u32
     )
 }
 
-// A fresh state into the first 186 bytes; later bytes stay.
-pub fn fresh(state: &mut [u8]) -> u32
-    ensures { λ r. ⌜ r ≡ freshCall (now (state .entry)) .number ⌝ }
-    ensures { λ _. ⌜ now (state .exit) ≡ freshCall (now (state .entry)) .state ⌝ }
+// A fresh state into the first 186 bytes, or 194 where it is for a configuration of kind 11; later bytes stay.
+pub fn fresh(keeps: bool, state: &mut [u8]) -> u32
+    ensures { λ r. ⌜ r ≡ freshCall keeps (now (state .entry)) .number ⌝ }
+    ensures { λ _. ⌜ now (state .exit) ≡ freshCall keeps (now (state .entry)) .state ⌝ }
 {
-    let n = frame_state::write_fresh(state);
+    let n = frame_state::write_fresh(state, keeps);
     n as u32
 }

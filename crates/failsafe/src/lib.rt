@@ -80,10 +80,19 @@ pub extern "C" fn failsafe_remove_area(areas: &[u8], number: u8, output: &mut [u
 
 #[no_mangle]
 pub extern "C" fn failsafe_fresh(state: &mut [u8]) -> u32
-    ensures { λ r. ⌜ r ≡ freshCall (now (state .entry)) .number ⌝ }
-    ensures { λ _. ⌜ now (state .exit) ≡ freshCall (now (state .entry)) .state ⌝ }
+    ensures { λ r. ⌜ r ≡ freshCall false (now (state .entry)) .number ⌝ }
+    ensures { λ _. ⌜ now (state .exit) ≡ freshCall false (now (state .entry)) .state ⌝ }
 {
-    entries::fresh(state)
+    entries::fresh(false, state)
+}
+
+// The fresh state of a flight whose configuration is of kind 11.
+#[no_mangle]
+pub extern "C" fn failsafe_fresh_raised(state: &mut [u8]) -> u32
+    ensures { λ r. ⌜ r ≡ freshCall true (now (state .entry)) .number ⌝ }
+    ensures { λ _. ⌜ now (state .exit) ≡ freshCall true (now (state .entry)) .state ⌝ }
+{
+    entries::fresh(true, state)
 }
 
 // Before a flight: the refusal that every step with this configuration and fence would answer, 0 for none.

@@ -1,24 +1,25 @@
 -- Both round trips of a Config frame. A NaN is one value here, so value, bytes, value says nothing of its bits; bytes, value, bytes gives the same bytes
 -- but for those of a NaN. Assumes nothing.
-use Prim.Native.Nat.{ℕ, _+_}
+use Prim.Native.Nat.{ℕ, _+_, _<_, _^_}
 use mathlib.Core.Path.{_≡_, _∙_, ap, refl, subst}
 use mathlib.Core.List.{List, _∷_, _++_}
 use mathlib.Core.Bool.{Bool, true, false, cond}
 use native.Mathlib.Omega.{arith}
-use lib.Dec.{eqb}
-use borrow.Author.Tests.{eqb-true}
+use lib.Dec.{eqb, lit<}
+use lib.ListN.{length}
+use borrow.Author.Tests.{eqb-true, eq-eqb, ne-eqb}
 use Rattle.wire.specs.Fields.{Bytes, u8At, numberAt, u16At, flagAt, u32At, f32At, byteBelow, le8, leFlag, leBytes, le16, le32, leF32, bytesFrom}
-use Rattle.wire.specs.Cell.{Within, U16, sortsOf, NoNan, nanRewritten, widths}
+use Rattle.wire.specs.Cell.{bytesOf, Within, U16, sortsOf, NoNan, nanRewritten, widths}
 use Rattle.wire.specs.Frame.{frameFault, frameHead}
-use Rattle.wire.proofs.Fields.{u32-back, flag-back, flag-valid, f32-back}
-use Rattle.wire.proofs.Head.{head-says, head-bytes}
+use Rattle.wire.proofs.Fields.{u16-back, u32-back, flag-back, flag-valid, f32-back}
+use Rattle.wire.proofs.Head.{head-says, head-bytes, frame-sound}
 use Rattle.wire.proofs.Cells.{cells-bytes, nan-free}
 use Rattle.wire.proofs.Whole.{whole}
 use Rattle.config.specs.declared.Config.{Config}
 use Rattle.frame_config.specs.declared.ConfigRead.the-variants.{Frame, Refused}
-use Rattle.frame_config.specs.ConfigFrame.{configAt, readConfig, configFrame, configCells, freshnessCells, linkCells, fenceCells, batteryCells, energyCells, flightCells}
+use Rattle.frame_config.specs.ConfigFrame.{configKind, keepsRaised, configAt, readConfig, configFrame, configCells, freshnessCells, linkCells, fenceCells, batteryCells, energyCells, flightCells}
 
-fields : (c : Config) → Within (configCells c) → configAt (configFrame c) ≡ c
+fields : (c : Config) → Within (configCells c) → configAt (configFrame c) (c .«keeps_raised») ≡ c
 unfolding configAt configFrame configCells freshnessCells linkCells fenceCells batteryCells energyCells flightCells frameHead u8At numberAt flagAt u32At f32At le8 leFlag leBytes le16 le32 leF32
 fields c g =
     let g1 = g .1 in
@@ -145,11 +146,36 @@ fields c g =
       «h_rtl» = f32-back (c .«h_rtl») (g58 .0) i;
       «reserve_wh» = f32-back (c .«reserve_wh») (g59 .0) i;
       «v_max» = f32-back (c .«v_max») (g60 .0) i;
+      «keeps_raised» = c .«keeps_raised»;
     }
 
-head : (c : Config) → frameFault 1 244 (configFrame c) ≡ 0
-unfolding frameFault configFrame configCells freshnessCells linkCells fenceCells batteryCells energyCells flightCells frameHead u8At numberAt u16At le8 leFlag leBytes le16 le32 leF32
-head c = refl
+kind-fits : (keeps : Bool) → configKind keeps < 2 ^ 16
+kind-fits true = lit< tt
+kind-fits false = lit< tt
+
+kind-says : (keeps : Bool) (s : List ℕ) → u16At s 2 ≡ configKind keeps → keepsRaised s ≡ keeps
+unfolding keepsRaised
+kind-says true s k = eq-eqb (u16At s 2) 11 k
+kind-says false s k = ne-eqb (u16At s 2) 11 (λ e. omega arith)
+
+-- a frame says of which kind it is
+kind : (c : Config) → keepsRaised (configFrame c) ≡ c .«keeps_raised»
+unfolding configFrame frameHead u8At numberAt u16At le16 leBytes
+kind c = kind-says (c .«keeps_raised») (configFrame c) (u16-back (configKind (c .«keeps_raised»)) (kind-fits (c .«keeps_raised»)))
+
+-- the fault of the head of either kind
+abbrev headFault : List ℕ → ℕ
+headFault s = frameFault (configKind (keepsRaised s)) 244 s
+
+body : (c : Config) → length (bytesOf (configCells c)) + 2 ≡ 244
+unfolding configCells freshnessCells linkCells fenceCells batteryCells energyCells flightCells le8 leFlag leBytes le32 leF32
+body c = refl
+
+head : (c : Config) → headFault (configFrame c) ≡ 0
+unfolding configFrame
+head c =
+    ap (λ (b : Bool). frameFault (configKind b) 244 (configFrame c)) (kind c)
+    ∙ frame-sound (configKind (c .«keeps_raised»)) 244 (bytesOf (configCells c)) (kind-fits (c .«keeps_raised»)) (lit< tt) (omega arith) (body c)
 
 valid : (c : Config) → byteBelow (configFrame c) 9 2 ≡ true
 unfolding byteBelow configFrame configCells freshnessCells linkCells fenceCells batteryCells energyCells flightCells frameHead u8At le8 leFlag leBytes le16 le32 leF32
@@ -158,7 +184,7 @@ valid c = flag-valid (c .«rc_required»)
 -- value, bytes, value: for each Config whose numbers are within their types and whose floats are binary32's
 pub value-back : (c : Config) → Within (configCells c) → readConfig (configFrame c) ≡ Frame c
 unfolding readConfig
-value-back c g = simp (head c, valid c, fields c g)
+value-back c g = simp (head c, valid c) (ap Frame (ap (configAt (configFrame c)) (kind c) ∙ fields c g))
 
 -- what an accepted frame says
 opened : (a b : Bool) (n : ℕ) (d c : Config) → cond a (cond b (Frame d) (Refused 4)) (Refused n) ≡ Frame c → (a ≡ true) × ((b ≡ true) × (d ≡ c))
@@ -166,22 +192,26 @@ opened true true n d c e = (refl, (refl, cc))
 opened true false n d c e = let z : _≡_ {A = ℕ} 0 1 = cc in absurd (omega arith)
 opened false b n d c e = let z : _≡_ {A = ℕ} 0 1 = cc in absurd (omega arith)
 
+-- what is read of either kind
+abbrev configOf : List ℕ → Config
+configOf s = configAt s (keepsRaised s)
+
 -- the frame of what was read, cell by cell
-cells : (s : List ℕ) → Bytes s → frameFault 1 244 s ≡ 0 → byteBelow s 9 2 ≡ true → configFrame (configAt s) ≡ nanRewritten (U16 ∷ U16 ∷ sortsOf (configCells (configAt s))) s 0
+cells : (s : List ℕ) → Bytes s → headFault s ≡ 0 → byteBelow s 9 2 ≡ true → configFrame (configOf s) ≡ nanRewritten (U16 ∷ U16 ∷ sortsOf (configCells (configOf s))) s 0
 unfolding configAt configFrame configCells freshnessCells linkCells fenceCells batteryCells energyCells flightCells
-cells s b f h = λ j. head-bytes 1 244 s b f j ++ cells-bytes (sortsOf (configCells (configAt s))) s 4 b (h, tt) j
+cells s b f h = λ j. head-bytes (configKind (keepsRaised s)) 244 s b f j ++ cells-bytes (sortsOf (configCells (configOf s))) s 4 b (h, tt) j
 
 long : (c : Config) → widths (sortsOf (configCells c)) ≡ 242
 unfolding configCells freshnessCells linkCells fenceCells batteryCells energyCells flightCells
 long c = refl
 
 module _ (s : List ℕ) (c : Config) (b : Bytes s) (e : readConfig s ≡ Frame c) where
-  accepted : (eqb (frameFault 1 244 s) 0 ≡ true) × ((byteBelow s 9 2 ≡ true) × (configAt s ≡ c))
+  accepted : (eqb (headFault s) 0 ≡ true) × ((byteBelow s 9 2 ≡ true) × (configOf s ≡ c))
   unfolding readConfig
-  accepted = opened (eqb (frameFault 1 244 s) 0) (byteBelow s 9 2) (frameFault 1 244 s) (configAt s) c e
+  accepted = opened (eqb (headFault s) 0) (byteBelow s 9 2) (headFault s) (configOf s) c e
 
-  sound : frameFault 1 244 s ≡ 0
-  sound = eqb-true (frameFault 1 244 s) 0 (accepted .0)
+  sound : headFault s ≡ 0
+  sound = eqb-true (headFault s) 0 (accepted .0)
 
   -- bytes, value, bytes: each NaN's bits become 7FC00000, the head is two fields of two bytes
   pub bytes-back : configFrame c ≡ nanRewritten (U16 ∷ U16 ∷ sortsOf (configCells c)) s 0
@@ -193,4 +223,4 @@ module _ (s : List ℕ) (c : Config) (b : Bytes s) (e : readConfig s ≡ Frame c
       bytes-back
       ∙ nan-free (U16 ∷ U16 ∷ sortsOf (configCells c)) s 0 b n
       ∙ ap (λ (k : ℕ). bytesFrom s 0 (2 + (2 + k))) (long c)
-      ∙ whole 0 246 s (head-says 1 244 s sound .1 .1)
+      ∙ whole 0 246 s (head-says (configKind (keepsRaised s)) 244 s sound .1 .1)

@@ -1,17 +1,26 @@
--- Kind 1, Config: "Body fields stand in the Rust's declared order". Assumes nothing.
+-- Kind 1, Config: "Body fields stand in the Rust's declared order". Document 02, L11: "A configuration of kind 11, body as kind 1 and taken wherever
+-- kind 1 is, has its own rules". Assumes nothing.
 use mathlib.Core.List.{List, [], _∷_, _++_}
-use mathlib.Core.Bool.{cond}
+use mathlib.Core.Bool.{Bool, cond}
 use Prim.Native.Nat.{ℕ}
 use lib.Dec.{eqb}
-use Rattle.wire.specs.Fields.{u8At, flagAt, u32At, f32At, byteBelow}
+use Rattle.wire.specs.Fields.{u8At, u16At, flagAt, u32At, f32At, byteBelow}
 use Rattle.wire.specs.Cell.{Cell, u8, flag, u32, f32, bytesOf}
 use Rattle.wire.specs.Frame.{frameFault, frameHead}
 use Rattle.config.specs.declared.Config.{Config}
 use Rattle.frame_config.specs.declared.ConfigRead.{ConfigRead}
 
+-- the kind of a configuration under which raised requests are kept, and of any other
+abbrev pub configKind : Bool → ℕ
+configKind keeps = cond keeps 11 1
+
+-- whether they are: the kind is 11. Any kind but 1 and 11 is not the kind due
+unfoldable pub keepsRaised : List ℕ → Bool
+keepsRaised s = eqb (u16At s 2) 11
+
 -- the fields in their places, after the four bytes of the head
-unfoldable pub configAt : List ℕ → Config
-configAt s =
+unfoldable pub configAt : List ℕ → Bool → Config
+configAt s keeps =
     record {
       «cell_count» = u8At s 4;
       «usable_capacity_wh» = f32At s 5;
@@ -75,14 +84,17 @@ configAt s =
       «h_rtl» = f32At s 234;
       «reserve_wh» = f32At s 238;
       «v_max» = f32At s 242;
+      «keeps_raised» = keeps;
     }
 
 -- the frame read: the head's refusal, 4 for a flag out of range, or the value
 unfoldable pub readConfig : List ℕ → ConfigRead
 readConfig s =
-    cond (eqb (frameFault 1 244 s) 0)
-    (cond (byteBelow s 9 2) (ConfigRead.Frame (configAt s)) (ConfigRead.Refused 4))
-    (ConfigRead.Refused (frameFault 1 244 s))
+    let keeps = keepsRaised s in
+    let fault = frameFault (configKind keeps) 244 s in
+    cond (eqb fault 0)
+    (cond (byteBelow s 9 2) (ConfigRead.Frame (configAt s keeps)) (ConfigRead.Refused 4))
+    (ConfigRead.Refused fault)
 
 -- the fields as cells, in six parts
 unfoldable pub freshnessCells : Config → List Cell
@@ -176,4 +188,4 @@ configCells c = freshnessCells c ++ (linkCells c ++ (fenceCells c ++ (batteryCel
 
 -- the whole frame: 244 bytes of kind and body
 unfoldable pub configFrame : Config → List ℕ
-configFrame c = frameHead 1 244 ++ bytesOf (configCells c)
+configFrame c = frameHead (configKind (c .«keeps_raised»)) 244 ++ bytesOf (configCells c)

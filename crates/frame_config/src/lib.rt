@@ -1,9 +1,9 @@
-// Kind 1: Config in its frame of 246 bytes, read and written.
+// Kinds 1 and 11: Config in its frame of 246 bytes, read and written. Their bodies are the same.
 ghost use mathlib.Core.Path.{_≡_};
 ghost use lib.Seq.{sets};
 ghost use Rattle.wire.specs.Cell.{bytesOf};
 ghost use Rattle.wire.specs.Frame.{roomFault, frameWritten};
-ghost use Rattle.frame_config.specs.ConfigFrame.{configAt, readConfig, freshnessCells, linkCells, fenceCells, batteryCells, energyCells, flightCells, configFrame};
+ghost use Rattle.frame_config.specs.ConfigFrame.{configKind, keepsRaised, configAt, readConfig, freshnessCells, linkCells, fenceCells, batteryCells, energyCells, flightCells, configFrame};
 use config::Config;
 
 pub enum ConfigRead {
@@ -11,8 +11,21 @@ pub enum ConfigRead {
     Refused(u16),
 }
 
-fn config_at(s: &[u8]) -> Config
-    ensures { λ r. ⌜ r ≡ configAt (now (s .entry)) ⌝ }
+// A configuration under which raised requests are kept is a kind 11.
+fn config_kind(keeps_raised: bool) -> u16
+    ensures { λ r. ⌜ r ≡ configKind «keeps_raised» ⌝ }
+{
+    if keeps_raised { 11 } else { 1 }
+}
+
+fn keeps_raised(s: &[u8]) -> bool
+    ensures { λ r. ⌜ r ≡ keepsRaised (now (s .entry)) ⌝ }
+{
+    wire::u16_at(s, 2) == 11
+}
+
+fn config_at(s: &[u8], keeps_raised: bool) -> Config
+    ensures { λ r. ⌜ r ≡ configAt (now (s .entry)) «keeps_raised» ⌝ }
 {
     Config {
         cell_count: wire::u8_at(s, 4),
@@ -77,6 +90,7 @@ fn config_at(s: &[u8]) -> Config
         h_rtl: wire::f32_at(s, 234),
         reserve_wh: wire::f32_at(s, 238),
         v_max: wire::f32_at(s, 242),
+        keeps_raised: keeps_raised,
     }
 }
 
@@ -84,14 +98,16 @@ fn config_at(s: &[u8]) -> Config
 pub fn read_config(s: &[u8]) -> ConfigRead
     ensures { λ r. ⌜ r ≡ readConfig (now (s .entry)) ⌝ }
 {
-    if wire::frame_fits(s, 1, 244) {
+    let keeps = keeps_raised(s);
+    let kind = config_kind(keeps);
+    if wire::frame_fits(s, kind, 244) {
         if wire::byte_below(s, 9, 2) {
-            ConfigRead::Frame(config_at(s))
+            ConfigRead::Frame(config_at(s, keeps))
         } else {
             ConfigRead::Refused(4)
         }
     } else {
-        ConfigRead::Refused(wire::frame_fault(s, 1, 244))
+        ConfigRead::Refused(wire::frame_fault(s, kind, 244))
     }
 }
 
@@ -190,7 +206,7 @@ fn put_flight(s: &mut [u8], c: Config)
 fn put_config(s: &mut [u8], c: Config)
     ensures { λ _. ⌜ now (s .exit) ≡ sets (now (s .entry)) 0 (configFrame c) ⌝ }
 {
-    wire::put_head(s, 1, 244);
+    wire::put_head(s, config_kind(c.keeps_raised), 244);
     put_freshness(s, c);
     put_link(s, c);
     put_fence(s, c);

@@ -13,12 +13,14 @@ use Rattle.float32.specs.Libm.{isFinite}
 use Rattle.types.specs.declared.OptionU32.{OptionU32}
 use Rattle.types.specs.declared.PositionSample.{PositionSample}
 use Rattle.types.specs.declared.OptionPositionSample.{OptionPositionSample}
-use Rattle.triggers.specs.declared.Timer.{Timer}
+use Rattle.timers.specs.declared.Timer.{Timer}
+use Rattle.triggers.specs.declared.Raised.{Raised}
+use Rattle.triggers.specs.Update.{noneRaised}
 use Rattle.supervisor.specs.declared.Supervisor.{Supervisor}
-use Rattle.supervisor.specs.Rules.{finiteVec, finiteStored, Rules}
+use Rattle.supervisor.specs.Rules.{finiteVec, finiteStored, Rules, RaisedFits}
 use Rattle.wire.specs.Fields.{Bytes, u8At, numberAt, u16At, flagAt, u32At, f32At, byteBelow, le8, leFlag, leBytes, le16, le32, leF32, bytesFrom}
 use Rattle.wire.specs.Cell.{Within}
-use Rattle.wire.specs.Frame.{frameFault, frameHead}
+use Rattle.wire.specs.Frame.{frameFault, frameHead, allTrue}
 use Rattle.wire.proofs.Fields.{u32-back, flag-back, flag-valid, u32-bytes, f32-bytes, flag-bytes, u32-lt, f32-fits}
 use Rattle.wire.proofs.Head.{head-says, head-bytes}
 use Rattle.wire.proofs.Whole.{first, second, whole, each}
@@ -28,7 +30,7 @@ use Rattle.options.specs.Enums.{actionAt, reasonAt, leAction, leReason}
 use Rattle.options.proofs.Options.{option-u32-back, option-u32-valid, option-u32-bytes, option-position-back, option-position-valid, absent-position}
 use Rattle.options.proofs.Enums.{action-back, reason-back, action-valid, reason-valid, action-bytes, reason-bytes}
 use Rattle.frame_state.specs.declared.StateRead.the-variants.{Frame, Refused}
-use Rattle.frame_state.specs.StateFrame.{timerAt, triggersAt, arbiterAt, stateAt, timersValid, stateTests, stateValid, readState, leTimer, leLinks, leFence, leBattery, leInput, leTriggers, leArbiter, stateFrame, timerCells, Typed}
+use Rattle.frame_state.specs.StateFrame.{stateKind, stateLength, raisedAt, raisedTests, raisedRead, raisedValid, leRaised, leKept, timerAt, triggersAt, arbiterAt, stateAt, timersValid, stateTests, stateValid, readState, leTimer, leLinks, leFence, leBattery, leInput, leTriggers, leArbiter, stateFrame, timerCells, Typed}
 
 -- ---- value, bytes, value
 
@@ -36,9 +38,9 @@ timer-back : (t : Timer) → u32OrZero (t .«since_ms») < 2 ^ 32 → timerAt (l
 unfolding timerAt leTimer
 timer-back t h = λ i. record { «since_ms» = option-u32-back (t .«since_ms») h i }
 
-triggers-back : (x : Supervisor) → Within (timerCells (x .triggers)) → triggersAt (stateFrame x) ≡ x .triggers
+triggers-back : (keeps : Bool) (x : Supervisor) → Within (timerCells (x .triggers)) → triggersAt (stateFrame keeps x) (x .triggers .raised) ≡ x .triggers
 unfolding triggersAt timerAt optionU32At stateFrame frameHead leTriggers leLinks leFence leBattery leInput leTimer leArbiter leAction leReason leOptionU32 leOptionPosition leVec3 leF32 le8 le16 le32 leBytes leFlag u8At numberAt flagAt u32At
-triggers-back x g0 =
+triggers-back keeps x g0 =
     let t = x .triggers in
     let g1 = g0 .1 in
     let g2 = g1 .1 in
@@ -95,14 +97,15 @@ triggers-back x g0 =
       «invalid_active» = flag-back (t .«invalid_active») i;
       «rc_lost_set» = timer-back (t .«rc_lost_set») (g24 .0) i;
       «gcs_stage» = t .«gcs_stage»;
+      raised = t .raised;
     }
 
-fields : (x : Supervisor) → Typed x → stateAt (stateFrame x) ≡ x
+fields : (keeps : Bool) (x : Supervisor) → Typed x → stateAt (stateFrame keeps x) (x .triggers .raised) ≡ x
 unfolding stateAt arbiterAt actionAt reasonAt optionU32At optionPositionAt vec3At stateFrame frameHead leTriggers leLinks leFence leBattery leInput leTimer leArbiter leAction leReason leOptionU32 leOptionPosition leVec3 leF32 le8 le16 le32 leBytes leFlag u8At numberAt flagAt u32At f32At
-fields x g =
+fields keeps x g =
     λ i.
     record {
-      triggers = triggers-back x (g .timers) i;
+      triggers = triggers-back keeps x (g .timers) i;
       arbiter =
           record {
             «prev_output» = action-back (x .arbiter .«prev_output») i;
@@ -117,13 +120,47 @@ fields x g =
       initialized = flag-back (x .initialized) i;
     }
 
-head : (x : Supervisor) → frameFault 5 184 (stateFrame x) ≡ 0
-unfolding frameFault stateFrame frameHead leTriggers leLinks leFence leBattery leInput leTimer leArbiter leAction leReason leOptionU32 leOptionPosition leVec3 leF32 le8 le16 le32 leBytes leFlag u8At numberAt u16At
-head x = refl
+-- what is raised, where the frame can hold it
+raised-back : (keeps : Bool) (x : Supervisor) → RaisedFits keeps x → raisedRead keeps (stateFrame keeps x) ≡ x .triggers .raised
+unfolding raisedRead raisedAt stateFrame frameHead leTriggers leLinks leFence leBattery leInput leTimer leArbiter leAction leReason leOptionU32 leOptionPosition leVec3 leF32 le8 le16 le32 leBytes leFlag leRaised u8At flagAt
+raised-back false x h = h
+raised-back true x h =
+    let r = x .triggers .raised in
+    λ i.
+    record {
+      «gps_degraded» = flag-back (r .«gps_degraded») i;
+      «gps_lost» = flag-back (r .«gps_lost») i;
+      «ekf_unhealthy» = flag-back (r .«ekf_unhealthy») i;
+      «fence_breach» = flag-back (r .«fence_breach») i;
+      «altitude_min» = flag-back (r .«altitude_min») i;
+      «battery_warn» = flag-back (r .«battery_warn») i;
+      «battery_low» = flag-back (r .«battery_low») i;
+      «energy_rtl_marginal» = flag-back (r .«energy_rtl_marginal») i;
+    }
 
-timers-valid : (x : Supervisor) → timersValid (stateFrame x) 24 ≡ true
+raised-valid : (keeps : Bool) (x : Supervisor) → raisedValid keeps (stateFrame keeps x) ≡ true
+unfolding raisedValid byteBelow stateFrame frameHead leTriggers leLinks leFence leBattery leInput leTimer leArbiter leAction leReason leOptionU32 leOptionPosition leVec3 leF32 le8 le16 le32 leBytes leFlag leRaised u8At
+raised-valid false x = refl
+raised-valid true x =
+    let r = x .triggers .raised in
+    λ i.
+    flag-valid (r .«gps_degraded») i
+    && flag-valid (r .«gps_lost») i
+    && flag-valid (r .«ekf_unhealthy») i
+    && flag-valid (r .«fence_breach») i
+    && flag-valid (r .«altitude_min») i
+    && flag-valid (r .«battery_warn») i
+    && flag-valid (r .«battery_low») i
+    && flag-valid (r .«energy_rtl_marginal») i
+
+head : (keeps : Bool) (x : Supervisor) → frameFault (stateKind keeps) (stateLength keeps) (stateFrame keeps x) ≡ 0
+unfolding frameFault leRaised stateFrame frameHead leTriggers leLinks leFence leBattery leInput leTimer leArbiter leAction leReason leOptionU32 leOptionPosition leVec3 leF32 le8 le16 le32 leBytes leFlag u8At numberAt u16At
+head true x = refl
+head false x = refl
+
+timers-valid : (keeps : Bool) (x : Supervisor) → timersValid (stateFrame keeps x) 24 ≡ true
 unfolding timersValid validOption zeros stateFrame frameHead leTriggers leLinks leFence leBattery leInput leTimer leArbiter leAction leReason leOptionU32 leOptionPosition leVec3 leF32 le8 le16 le32 leBytes leFlag u8At
-timers-valid x =
+timers-valid keeps x =
     let t = x .triggers in
     λ i.
     true
@@ -152,16 +189,16 @@ timers-valid x =
     && option-u32-valid (t .«energy_infeas_set» .«since_ms») i
     && option-u32-valid (t .«invalid_clear» .«since_ms») i
 
-valid : (x : Supervisor) → Typed x → Rules x → stateValid (stateFrame x) ≡ true
+valid : (keeps : Bool) (x : Supervisor) → Typed x → Rules x → stateValid (stateFrame keeps x) ≡ true
 unfolding stateValid validOption zeros byteBelow optionPositionAt vec3At stateFrame frameHead leTriggers leLinks leFence leBattery leInput leTimer leArbiter leAction leReason leOptionU32 leOptionPosition leVec3 leF32 le8 le16 le32 leBytes leFlag u8At numberAt flagAt u32At f32At
-valid x g r =
+valid keeps x g r =
     let t = x .triggers in
     let o = x .glitch .«last_accepted» in
     let stage = lt-ltb (t .«gcs_stage») 4 (let h = r .stage in omega arith) in
     let streak = lt-ltb (x .«backwards_streak») 3 (let h = r .streak in omega arith) in
     let finite = ap finiteStored (option-position-back o (g .stored)) ∙ r .stored in
     λ i.
-    timers-valid x i
+    timers-valid keeps x i
     && flag-valid (t .«battery_critical_latched») i
     && flag-valid (t .«energy_infeasible_latched») i
     && flag-valid (t .«invalid_active») i
@@ -177,10 +214,12 @@ valid x g r =
     && streak i
     && flag-valid (x .initialized) i
 
--- value, bytes, value: for each state that the frame's rules allow
-pub value-back : (x : Supervisor) → Typed x → Rules x → readState (stateFrame x) ≡ Frame x
+-- value, bytes, value: for each state that the frame's rules allow and that the frame can hold
+pub value-back : (keeps : Bool) (x : Supervisor) → Typed x → Rules x → RaisedFits keeps x → readState keeps (stateFrame keeps x) ≡ Frame x
 unfolding readState
-value-back x g r = simp (head x, valid x g r, fields x g)
+value-back keeps x g r h =
+    simp (head keeps x, valid keeps x g r, raised-valid keeps x)
+    (ap Frame (ap (stateAt (stateFrame keeps x)) (raised-back keeps x h) ∙ fields keeps x g))
 
 -- ---- bytes, value, bytes
 
@@ -206,6 +245,14 @@ unfolding zeros u8At
 zero-bytes s i zero h = refl
 zero-bytes s i (suc n) h =
     λ j. eqb-true (u8At s i) 0 (first (eqb (u8At s i) 0) (zeros s (i + 1) n) h) j ∷ zero-bytes s (i + 1) n (second (eqb (u8At s i) 0) (zeros s (i + 1) n) h) j
+
+both-sizes : (keeps : Bool) → 2 + stateLength keeps ≡ 186 + cond keeps 8 0
+both-sizes true = refl
+both-sizes false = refl
+
+both-parts : (s : List ℕ) (keeps : Bool) → bytesFrom s 0 186 ++ bytesFrom s 186 (cond keeps 8 0) ≡ bytesFrom s 0 (186 + cond keeps 8 0)
+both-parts s true = refl
+both-parts s false = refl
 
 module _ (s : List ℕ) (b : Bytes s) where
   vec3-bytes : (i : ℕ) → finiteVec (vec3At s i) ≡ true → leVec3 (vec3At s i) ≡ bytesFrom s i 4 ++ (bytesFrom s (i + 4) 4 ++ bytesFrom s (i + 8) 4)
@@ -234,8 +281,34 @@ module _ (s : List ℕ) (b : Bytes s) where
       let r = ne-eqb (suc (suc n)) 1 (λ e. omega arith) in
       absurd (false≢true (simp (p, r) at v))
 
-  module _ (h : frameFault 5 184 s ≡ 0) (v : stateValid s ≡ true) where
-    cells : stateFrame (stateAt s) ≡ bytesFrom s 0 186
+  -- the bytes of what is raised
+  kept-bytes : (keeps : Bool) → raisedValid keeps s ≡ true → leKept keeps (raisedRead keeps s) ≡ bytesFrom s 186 (cond keeps 8 0)
+  unfolding raisedValid raisedRead raisedAt leRaised
+  kept-bytes false v = refl
+  kept-bytes true v =
+      let f0 = each (byteBelow s 186 2) (raisedTests s) v in
+      let f1 = f0 .1 in
+      let f2 = f1 .1 in
+      let f3 = f2 .1 in
+      let f4 = f3 .1 in
+      let f5 = f4 .1 in
+      let f6 = f5 .1 in
+      let f7 = f6 .1 in
+      λ i.
+      flag-bytes s 186 (f0 .0) i
+      ++ (flag-bytes s 187 (f1 .0) i
+      ++ (flag-bytes s 188 (f2 .0) i
+      ++ (flag-bytes s 189 (f3 .0) i
+      ++ (flag-bytes s 190 (f4 .0) i
+      ++ (flag-bytes s 191 (f5 .0) i
+      ++ (flag-bytes s 192 (f6 .0) i
+      ++ flag-bytes s 193 (f7 .0) i))))))
+
+  module _ (keeps : Bool) (h : frameFault (stateKind keeps) (stateLength keeps) s ≡ 0) (v : stateValid s ≡ true) (w : raisedValid keeps s ≡ true) where
+    abbrev read : Supervisor
+    read = stateAt s (raisedRead keeps s)
+
+    cells : stateFrame keeps read ≡ bytesFrom s 0 186 ++ bytesFrom s 186 (cond keeps 8 0)
     unfolding stateValid validOption stateAt triggersAt arbiterAt timerAt optionPositionAt flagAt u8At stateFrame leTriggers leLinks leFence leBattery leInput leTimer leArbiter le8
     cells =
         let f = each (timersValid s 24) (stateTests s) v in
@@ -256,17 +329,17 @@ module _ (s : List ℕ) (b : Bytes s) where
         let t13 = t12 .1 in
         let position = position-bytes (u8At s 145) (t9 .0) (t10 .0) in
         λ i.
-        head-bytes 5 184 s b h i ++ (
+        head-bytes (stateKind keeps) (stateLength keeps) s b h i ++ (
         ((flag-bytes s 4 (t0 .0) i ++ (flag-bytes s 5 (t1 .0) i ++ (timer 0 (lit< tt) i ++ (timer 1 (lit< tt) i ++ (timer 2 (lit< tt) i ++ (timer 3 (lit< tt) i ++ (timer 4 (lit< tt) i ++ (timer 5 (lit< tt) i ++ (timer 6 (lit< tt) i ++ (timer 7 (lit< tt) i)))))))))) ++ (
         (timer 8 (lit< tt) i ++ (timer 9 (lit< tt) i ++ (timer 10 (lit< tt) i ++ (timer 11 (lit< tt) i ++ (timer 12 (lit< tt) i ++ (timer 13 (lit< tt) i)))))) ++ (
         (timer 14 (lit< tt) i ++ (timer 15 (lit< tt) i ++ (timer 16 (lit< tt) i ++ (timer 17 (lit< tt) i ++ (timer 18 (lit< tt) i ++ (timer 19 (lit< tt) i ++ (timer 20 (lit< tt) i ++ (timer 21 (lit< tt) i ++ (timer 22 (lit< tt) i))))))))) ++ (
         (timer 23 (lit< tt) i ++ (flag-bytes s 126 (t2 .0) i ++ (option-u32-bytes s 127 b (t3 .0) i ++ (bytesFrom s 132 1)))))))) ++ (
         (action-bytes s 133 (t5 .0) i ++ (reason-bytes s 134 (t6 .0) i ++ option-u32-bytes s 135 b (t7 .0) i)) ++ (
         option-u32-bytes s 140 b (t8 .0) i ++ (position i ++ (bytesFrom s 174 1 ++ (
-        option-u32-bytes s 175 b (t11 .0) i ++ (u32-bytes s 180 b i ++ (bytesFrom s 184 1 ++ flag-bytes s 185 (t13 .0) i))))))))
+        option-u32-bytes s 175 b (t11 .0) i ++ (u32-bytes s 180 b i ++ (bytesFrom s 184 1 ++ (flag-bytes s 185 (t13 .0) i ++ kept-bytes keeps w i)))))))))
 
-    state-bytes : stateFrame (stateAt s) ≡ s
-    state-bytes = cells ∙ whole 0 186 s (head-says 5 184 s h .1 .1)
+    state-bytes : stateFrame keeps read ≡ s
+    state-bytes = cells ∙ both-parts s keeps ∙ whole 0 (186 + cond keeps 8 0) s (head-says (stateKind keeps) (stateLength keeps) s h .1 .1 ∙ both-sizes keeps)
 
   word : (i : ℕ) → u32OrZero (optionU32At s i) < 2 ^ 32
   unfolding optionU32At
@@ -284,9 +357,9 @@ module _ (s : List ℕ) (b : Bytes s) where
       at true = (u32-lt s 146 b, (f32-fits s 150, (f32-fits s 154, (f32-fits s 158, (f32-fits s 162, (f32-fits s 166, (f32-fits s 170, tt)))))))
       at false = let z = ofBits-fits binary32 0 in (lit< tt, (z, (z, (z, (z, (z, (z, tt)))))))
 
-  at-typed : Typed (stateAt s)
+  at-typed : (r : Raised) → Typed (stateAt s r)
   unfolding stateAt triggersAt arbiterAt timerAt
-  at-typed =
+  at-typed r =
       record {
         timers = (word 6, (word 11, (word 16, (word 21, (word 26, (word 31, (word 36, (word 41, (word 46, (word 51, (word 56, (word 61, (word 66, (word 71, (word 76, (word 81, (word 86, (word 91, (word 96, (word 101, (word 106, (word 111, (word 116, (word 121, (word 127, tt)))))))))))))))))))))))));
         recovery = word 135;
@@ -296,9 +369,9 @@ module _ (s : List ℕ) (b : Bytes s) where
         epoch = u32-lt s 180 b;
       }
 
-at-rules : (s : List ℕ) → stateValid s ≡ true → Rules (stateAt s)
+at-rules : (s : List ℕ) (raised : Raised) → stateValid s ≡ true → Rules (stateAt s raised)
 unfolding stateValid byteBelow stateAt triggersAt
-at-rules s v =
+at-rules s raised v =
     let t0 = each (timersValid s 24) (stateTests s) v .1 in
     let t4 = t0 .1 .1 .1 .1 in
     let t10 = t4 .1 .1 .1 .1 .1 .1 in
@@ -313,18 +386,35 @@ opened true true n y x e = (refl, (refl, cc))
 opened true false n y x e = let z : _≡_ {A = ℕ} 0 1 = cc in absurd (omega arith)
 opened false b n y x e = let z : _≡_ {A = ℕ} 0 1 = cc in absurd (omega arith)
 
-module _ (s : List ℕ) (x : Supervisor) (e : readState s ≡ Frame x) where
-  accepts : (eqb (frameFault 5 184 s) 0 ≡ true) × ((stateValid s ≡ true) × (stateAt s ≡ x))
+-- what is read of a frame is what one can hold
+at-fits : (keeps : Bool) (s : List ℕ) → RaisedFits keeps (stateAt s (raisedRead keeps s))
+unfolding raisedRead stateAt triggersAt
+at-fits true s = refl
+at-fits false s = refl
+
+module _ (keeps : Bool) (s : List ℕ) (x : Supervisor) (e : readState keeps s ≡ Frame x) where
+  abbrev headFault : ℕ
+  headFault = frameFault (stateKind keeps) (stateLength keeps) s
+
+  accepts : (eqb headFault 0 ≡ true) × ((stateValid s && raisedValid keeps s ≡ true) × (stateAt s (raisedRead keeps s) ≡ x))
   unfolding readState
-  accepts = opened (eqb (frameFault 5 184 s) 0) (stateValid s) (frameFault 5 184 s) (stateAt s) x e
+  accepts = opened (eqb headFault 0) (stateValid s && raisedValid keeps s) headFault (stateAt s (raisedRead keeps s)) x e
+
+  is-valid : stateValid s ≡ true
+  is-valid = first (stateValid s) (raisedValid keeps s) (accepts .1 .0)
 
   -- bytes, value, bytes: the very bytes
-  pub bytes-back : Bytes s → stateFrame x ≡ s
-  bytes-back b = sym (ap stateFrame (accepts .1 .1)) ∙ state-bytes s b (eqb-true (frameFault 5 184 s) 0 (accepts .0)) (accepts .1 .0)
+  pub bytes-back : Bytes s → stateFrame keeps x ≡ s
+  bytes-back b =
+      sym (ap (stateFrame keeps) (accepts .1 .1))
+      ∙ state-bytes s b keeps (eqb-true headFault 0 (accepts .0)) is-valid (second (stateValid s) (raisedValid keeps s) (accepts .1 .0))
 
-  -- what was read obeys the frame's rules and is within its types, so it is written and read again as the very same
+  -- what was read obeys the frame's rules, is within its types and is what it can hold, so it is written and read again as the very same
   pub read-rules : Rules x
-  read-rules = subst Rules (accepts .1 .1) (at-rules s (accepts .1 .0))
+  read-rules = subst Rules (accepts .1 .1) (at-rules s (raisedRead keeps s) is-valid)
 
   pub read-typed : Bytes s → Typed x
-  read-typed b = subst Typed (accepts .1 .1) (at-typed s b)
+  read-typed b = subst Typed (accepts .1 .1) (at-typed s b (raisedRead keeps s))
+
+  pub read-fits : RaisedFits keeps x
+  read-fits = subst (RaisedFits keeps) (accepts .1 .1) (at-fits keeps s)

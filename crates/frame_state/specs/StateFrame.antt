@@ -1,10 +1,13 @@
--- Kind 5, state: "Supervisor without cfg and fence", "Body fields stand in the Rust's declared order". Assumes nothing.
+-- Kind 5, state: "Supervisor without cfg and fence", "Body fields stand in the Rust's declared order". Document 02, L11, of a flight whose configuration is
+-- of kind 11: "Its state is kind 12: kind 5 with eight further bool bytes". Everywhere here `keeps` is whether it is a kind 12. Assumes nothing.
 use Prim.Native.Nat.{ℕ, zero, suc, _+_, _*_, _^_, _<_}
 use mathlib.Core.List.{List, [], _∷_, _++_}
 use mathlib.Core.Bool.{Bool, true, cond, _&&_}
 use lib.Dec.{eqb}
-use Rattle.triggers.specs.declared.Timer.{Timer}
+use Rattle.timers.specs.declared.Timer.{Timer}
+use Rattle.triggers.specs.declared.Raised.{Raised}
 use Rattle.triggers.specs.declared.TriggerState.{TriggerState}
+use Rattle.triggers.specs.Update.{noneRaised}
 use Rattle.arbiter.specs.declared.ArbiterState.{ArbiterState}
 use Rattle.supervisor.specs.declared.Supervisor.{Supervisor}
 use Rattle.supervisor.specs.Rules.{finiteStored}
@@ -16,13 +19,20 @@ use Rattle.options.specs.Position.{optionPositionAt, leOptionPosition, position
 use Rattle.options.specs.Enums.{actionAt, reasonAt, leAction, leReason}
 use Rattle.frame_state.specs.declared.StateRead.{StateRead}
 
+abbrev pub stateKind : Bool → ℕ
+stateKind keeps = cond keeps 12 5
+
+-- the bytes of kind and body
+abbrev pub stateLength : Bool → ℕ
+stateLength keeps = cond keeps 192 184
+
 -- a timer is a struct of one Option
 unfoldable pub timerAt : List ℕ → ℕ → Timer
 timerAt s i = record { «since_ms» = optionU32At s i }
 
 -- the fields in their places, after the four bytes of the head
-unfoldable pub triggersAt : List ℕ → TriggerState
-triggersAt s =
+unfoldable pub triggersAt : List ℕ → Raised → TriggerState
+triggersAt s raised =
     record {
       «battery_critical_latched» = flagAt s 4;
       «energy_infeasible_latched» = flagAt s 5;
@@ -53,15 +63,16 @@ triggersAt s =
       «invalid_active» = flagAt s 126;
       «rc_lost_set» = timerAt s 127;
       «gcs_stage» = u8At s 132;
+      raised = raised;
     }
 
 unfoldable pub arbiterAt : List ℕ → ArbiterState
 arbiterAt s = record { «prev_output» = actionAt s 133; «prev_reason» = reasonAt s 134; «recovery_since_ms» = optionU32At s 135 }
 
-unfoldable pub stateAt : List ℕ → Supervisor
-stateAt s =
+unfoldable pub stateAt : List ℕ → Raised → Supervisor
+stateAt s raised =
     record {
-      triggers = triggersAt s;
+      triggers = triggersAt s raised;
       arbiter = arbiterAt s;
       disarm = record { «hold_since_ms» = optionU32At s 140 };
       glitch = record { «last_accepted» = optionPositionAt s 145; «reject_streak» = u8At s 174 };
@@ -99,12 +110,45 @@ stateTests s =
 unfoldable pub stateValid : List ℕ → Bool
 stateValid s = allTrue (timersValid s 24) (stateTests s)
 
+-- "eight further bool bytes in the order above", behind the bytes of a kind 5
+unfoldable pub raisedAt : List ℕ → Raised
+raisedAt s =
+    record {
+      «gps_degraded» = flagAt s 186;
+      «gps_lost» = flagAt s 187;
+      «ekf_unhealthy» = flagAt s 188;
+      «fence_breach» = flagAt s 189;
+      «altitude_min» = flagAt s 190;
+      «battery_warn» = flagAt s 191;
+      «battery_low» = flagAt s 192;
+      «energy_rtl_marginal» = flagAt s 193;
+    }
+
+abbrev pub raisedTests : List ℕ → List Bool
+raisedTests s =
+    byteBelow s 187 2 ∷
+    byteBelow s 188 2 ∷
+    byteBelow s 189 2 ∷
+    byteBelow s 190 2 ∷
+    byteBelow s 191 2 ∷
+    byteBelow s 192 2 ∷
+    byteBelow s 193 2 ∷
+    []
+
+-- a kind 5 has none of them, and nothing is raised
+unfoldable pub raisedRead : Bool → List ℕ → Raised
+raisedRead keeps s = cond keeps (raisedAt s) noneRaised
+
+unfoldable pub raisedValid : Bool → List ℕ → Bool
+raisedValid keeps s = cond keeps (allTrue (byteBelow s 186 2) (raisedTests s)) true
+
 -- the frame read: the head's refusal, 4 for a field out of range, or the value
-unfoldable pub readState : List ℕ → StateRead
-readState s =
-    cond (eqb (frameFault 5 184 s) 0)
-    (cond (stateValid s) (StateRead.Frame (stateAt s)) (StateRead.Refused 4))
-    (StateRead.Refused (frameFault 5 184 s))
+unfoldable pub readState : Bool → List ℕ → StateRead
+readState keeps s =
+    let fault = frameFault (stateKind keeps) (stateLength keeps) s in
+    cond (eqb fault 0)
+    (cond (stateValid s && raisedValid keeps s) (StateRead.Frame (stateAt s (raisedRead keeps s))) (StateRead.Refused 4))
+    (StateRead.Refused fault)
 
 unfoldable pub leTimer : Timer → List ℕ
 leTimer t = leOptionU32 (t .«since_ms»)
@@ -157,10 +201,24 @@ leTriggers t = leLinks t ++ (leFence t ++ (leBattery t ++ leInput t))
 unfoldable pub leArbiter : ArbiterState → List ℕ
 leArbiter a = leAction (a .«prev_output») ++ (leReason (a .«prev_reason») ++ leOptionU32 (a .«recovery_since_ms»))
 
--- the whole frame: 184 bytes of kind and body
-unfoldable pub stateFrame : Supervisor → List ℕ
-stateFrame x =
-    frameHead 5 184 ++
+unfoldable pub leRaised : Raised → List ℕ
+leRaised r =
+    leFlag (r .«gps_degraded») ++
+    (leFlag (r .«gps_lost») ++
+    (leFlag (r .«ekf_unhealthy») ++
+    (leFlag (r .«fence_breach») ++
+    (leFlag (r .«altitude_min») ++
+    (leFlag (r .«battery_warn») ++
+    (leFlag (r .«battery_low») ++
+    leFlag (r .«energy_rtl_marginal»)))))))
+
+abbrev pub leKept : Bool → Raised → List ℕ
+leKept keeps r = cond keeps (leRaised r) []
+
+-- the whole frame
+unfoldable pub stateFrame : Bool → Supervisor → List ℕ
+stateFrame keeps x =
+    frameHead (stateKind keeps) (stateLength keeps) ++
     (leTriggers (x .triggers) ++
     (leArbiter (x .arbiter) ++
     (leOptionU32 (x .disarm .«hold_since_ms») ++
@@ -169,7 +227,8 @@ stateFrame x =
     (leOptionU32 (x .«last_now») ++
     (le32 (x .«epoch_start») ++
     (le8 (x .«backwards_streak») ++
-    leFlag (x .initialized)))))))))
+    (leFlag (x .initialized) ++
+    leKept keeps (x .triggers .raised))))))))))
 
 -- the numbers of the timers, 0 for an absent one
 abbrev pub timerCells : TriggerState → List Cell

@@ -1,19 +1,22 @@
-// Kind 5: the supervisor's state, without configuration and fence, in its frame of 186 bytes, read and written.
+// Kind 5: the supervisor's state, without configuration and fence, in its frame of 186 bytes, read and written. Kind 12, of a flight
+// that keeps raised requests, has eight bytes more: `keeps` says which it is.
 ghost use mathlib.Core.Path.{_≡_};
 ghost use Prim.Native.Nat.{_+_, _<_, _≤_};
 ghost use lib.ListN.{length};
 ghost use lib.Seq.{sets};
+ghost use Rattle.triggers.specs.Update.{noneRaised};
 ghost use Rattle.supervisor.specs.Rules.{finiteVec, finiteStored};
 ghost use Rattle.supervisor.specs.Step.{freshSupervisor};
 ghost use Rattle.wire.specs.Frame.{roomFault, frameWritten};
 ghost use Rattle.wire.specs.Laid.{laid, Blank};
 ghost use Rattle.options.specs.Options.{validOption};
 ghost use Rattle.options.specs.Position.{optionPositionAt};
-ghost use Rattle.frame_state.specs.StateFrame.{timerAt, triggersAt, arbiterAt, stateAt, timersValid, stateValid, readState, leTimer, leLinks, leFence, leBattery, leInput, leTriggers, leArbiter, stateFrame};
+ghost use Rattle.frame_state.specs.StateFrame.{stateKind, stateLength, raisedAt, raisedRead, raisedValid, leRaised, leKept, timerAt, triggersAt, arbiterAt, stateAt, timersValid, stateValid, readState, leTimer, leLinks, leFence, leBattery, leInput, leTriggers, leArbiter, stateFrame};
 use arbiter::ArbiterState;
 use disarm::DisarmGate;
 use supervisor::Supervisor;
-use triggers::Timer;
+use timers::Timer;
+use triggers::Raised;
 use triggers::TriggerState;
 use types::OptionPositionSample;
 use types::OptionU32;
@@ -23,6 +26,26 @@ use validate::GlitchState;
 pub enum StateRead {
     Frame(Supervisor),
     Refused(u16),
+}
+
+fn state_kind(keeps: bool) -> u16
+    ensures { λ r. ⌜ r ≡ stateKind keeps ⌝ }
+{
+    if keeps { 12 } else { 5 }
+}
+
+// The bytes of kind and body.
+fn state_length(keeps: bool) -> u16
+    ensures { λ r. ⌜ r ≡ stateLength keeps ⌝ }
+{
+    if keeps { 192 } else { 184 }
+}
+
+// The bytes of the whole frame.
+pub fn state_size(keeps: bool) -> usize
+    ensures { λ r. ⌜ r ≡ 2 + stateLength keeps ⌝ }
+{
+    if keeps { 194 } else { 186 }
 }
 
 // The number is read before its flag: a choice between two values takes no branch.
@@ -42,8 +65,8 @@ fn timer_at(s: &[u8], at: usize) -> Timer
     }
 }
 
-fn triggers_at(s: &[u8]) -> TriggerState
-    ensures { λ r. ⌜ r ≡ triggersAt (now (s .entry)) ⌝ }
+fn triggers_at(s: &[u8], raised: Raised) -> TriggerState
+    ensures { λ r. ⌜ r ≡ triggersAt (now (s .entry)) raised ⌝ }
 {
     TriggerState {
         battery_critical_latched: wire::flag_at(s, 4),
@@ -75,6 +98,7 @@ fn triggers_at(s: &[u8]) -> TriggerState
         invalid_active: wire::flag_at(s, 126),
         rc_lost_set: timer_at(s, 127),
         gcs_stage: wire::u8_at(s, 132),
+        raised: raised,
     }
 }
 
@@ -88,12 +112,12 @@ fn arbiter_at(s: &[u8]) -> ArbiterState
     }
 }
 
-fn state_at(s: &[u8], stored: OptionPositionSample) -> Supervisor
+fn state_at(s: &[u8], stored: OptionPositionSample, raised: Raised) -> Supervisor
     requires { ⌜ stored ≡ optionPositionAt (now s) 145 ⌝ }
-    ensures { λ r. ⌜ r ≡ stateAt (now (s .entry)) ⌝ }
+    ensures { λ r. ⌜ r ≡ stateAt (now (s .entry)) raised ⌝ }
 {
     Supervisor {
-        triggers: triggers_at(s),
+        triggers: triggers_at(s, raised),
         arbiter: arbiter_at(s),
         disarm: DisarmGate {
             hold_since_ms: options::option_u32_at(s, 140),
@@ -124,7 +148,7 @@ fn timer_valid(s: &[u8], at: usize) -> bool
 
 // The 24 timers that stand one after the other.
 fn timers_valid(s: &[u8]) -> bool
-    requires { ⌜ length (now s) ≡ 186 ⌝ }
+    requires { ⌜ 186 ≤ length (now s) ⌝ }
     ensures { λ r. ⌜ r ≡ timersValid (now (s .entry)) 24 ⌝ }
 {
     let mut i: usize = 0;
@@ -159,7 +183,7 @@ fn finite_stored(o: OptionPositionSample) -> bool
 
 // No test is made after one that fails.
 fn state_valid(s: &[u8], stored: OptionPositionSample) -> bool
-    requires { ⌜ length (now s) ≡ 186 ⌝ }
+    requires { ⌜ 186 ≤ length (now s) ⌝ }
     requires { ⌜ stored ≡ optionPositionAt (now s) 145 ⌝ }
     ensures { λ r. ⌜ r ≡ stateValid (now (s .entry)) ⌝ }
 {
@@ -180,19 +204,62 @@ fn state_valid(s: &[u8], stored: OptionPositionSample) -> bool
     valid & wire::byte_below(s, 185, 2)
 }
 
-// The state of a whole frame, or the refusal number: 1 to 3 for the head, 4 for a field out of range.
-pub fn read_state(s: &[u8]) -> StateRead
-    ensures { λ r. ⌜ r ≡ readState (now (s .entry)) ⌝ }
+fn raised_at(s: &[u8]) -> Raised
+    ensures { λ r. ⌜ r ≡ raisedAt (now (s .entry)) ⌝ }
 {
-    if wire::frame_fits(s, 5, 184) {
+    Raised {
+        gps_degraded: wire::flag_at(s, 186),
+        gps_lost: wire::flag_at(s, 187),
+        ekf_unhealthy: wire::flag_at(s, 188),
+        fence_breach: wire::flag_at(s, 189),
+        altitude_min: wire::flag_at(s, 190),
+        battery_warn: wire::flag_at(s, 191),
+        battery_low: wire::flag_at(s, 192),
+        energy_rtl_marginal: wire::flag_at(s, 193),
+    }
+}
+
+fn raised_read(s: &[u8], keeps: bool) -> Raised
+    ensures { λ r. ⌜ r ≡ raisedRead keeps (now (s .entry)) ⌝ }
+{
+    if keeps { raised_at(s) } else { Raised::none() }
+}
+
+fn raised_valid(s: &[u8], keeps: bool) -> bool
+    ensures { λ r. ⌜ r ≡ raisedValid keeps (now (s .entry)) ⌝ }
+{
+    if keeps {
+        wire::byte_below(s, 186, 2)
+            & wire::byte_below(s, 187, 2)
+            & wire::byte_below(s, 188, 2)
+            & wire::byte_below(s, 189, 2)
+            & wire::byte_below(s, 190, 2)
+            & wire::byte_below(s, 191, 2)
+            & wire::byte_below(s, 192, 2)
+            & wire::byte_below(s, 193, 2)
+    } else {
+        true
+    }
+}
+
+// The state of a whole frame, or the refusal number: 1 to 3 for the head, 4 for a field out of range.
+pub fn read_state(s: &[u8], keeps: bool) -> StateRead
+    ensures { λ r. ⌜ r ≡ readState keeps (now (s .entry)) ⌝ }
+{
+    let kind = state_kind(keeps);
+    let len = state_length(keeps);
+    if wire::frame_fits(s, kind, len) {
         let stored = options::option_position_at(s, 145);
-        if state_valid(s, stored) {
-            StateRead::Frame(state_at(s, stored))
+        let valid = state_valid(s, stored);
+        let bools = raised_valid(s, keeps);
+        if valid & bools {
+            let raised = raised_read(s, keeps);
+            StateRead::Frame(state_at(s, stored, raised))
         } else {
             StateRead::Refused(4)
         }
     } else {
-        StateRead::Refused(wire::frame_fault(s, 5, 184))
+        StateRead::Refused(wire::frame_fault(s, kind, len))
     }
 }
 
@@ -310,8 +377,29 @@ fn put_arbiter(s: &mut [u8], a: ArbiterState)
     options::put_option_u32(s, 135, recovery_since_ms);
 }
 
-fn put_state(s: &mut [u8], x: Supervisor)
-    ensures { λ _. ⌜ now (s .exit) ≡ sets (now (s .entry)) 0 (stateFrame x) ⌝ }
+fn put_raised(s: &mut [u8], r: Raised)
+    ensures { λ _. ⌜ now (s .exit) ≡ sets (now (s .entry)) 186 (leRaised r) ⌝ }
+{
+    wire::put_flag(s, 186, r.gps_degraded);
+    wire::put_flag(s, 187, r.gps_lost);
+    wire::put_flag(s, 188, r.ekf_unhealthy);
+    wire::put_flag(s, 189, r.fence_breach);
+    wire::put_flag(s, 190, r.altitude_min);
+    wire::put_flag(s, 191, r.battery_warn);
+    wire::put_flag(s, 192, r.battery_low);
+    wire::put_flag(s, 193, r.energy_rtl_marginal);
+}
+
+fn put_kept(s: &mut [u8], keeps: bool, r: Raised)
+    ensures { λ _. ⌜ now (s .exit) ≡ sets (now (s .entry)) 186 (leKept keeps r) ⌝ }
+{
+    if keeps {
+        put_raised(s, r);
+    }
+}
+
+fn put_state(s: &mut [u8], keeps: bool, x: Supervisor)
+    ensures { λ _. ⌜ now (s .exit) ≡ sets (now (s .entry)) 0 (stateFrame keeps x) ⌝ }
 {
     let triggers = x.triggers;
     let arbiter = x.arbiter;
@@ -320,7 +408,10 @@ fn put_state(s: &mut [u8], x: Supervisor)
     let glitch = x.glitch;
     let last_accepted = glitch.last_accepted;
     let last_now = x.last_now;
-    wire::put_head(s, 5, 184);
+    let raised = triggers.raised;
+    let kind = state_kind(keeps);
+    let len = state_length(keeps);
+    wire::put_head(s, kind, len);
     wire::put_zeros(s, 4, 129);
     put_triggers(s, triggers);
     put_arbiter(s, arbiter);
@@ -331,28 +422,32 @@ fn put_state(s: &mut [u8], x: Supervisor)
     wire::put_u32(s, 180, x.epoch_start);
     wire::put_u8(s, 184, x.backwards_streak);
     wire::put_flag(s, 185, x.initialized);
+    put_kept(s, keeps, raised);
 }
 
-// 0 with the frame in the first 186 bytes, or 5 with nothing written where the slice has fewer.
-pub fn write_state(s: &mut [u8], x: Supervisor) -> u16
-    ensures { λ r. ⌜ (r ≡ roomFault (stateFrame x) (now (s .entry))) × (now (s .exit) ≡ frameWritten (stateFrame x) (now (s .entry))) ⌝ }
+// 0 with the frame in the first bytes, or 5 with nothing written where the slice has fewer.
+pub fn write_state(s: &mut [u8], keeps: bool, x: Supervisor) -> u16
+    ensures { λ r. ⌜ (r ≡ roomFault (stateFrame keeps x) (now (s .entry))) × (now (s .exit) ≡ frameWritten (stateFrame keeps x) (now (s .entry))) ⌝ }
 {
-    if s.len() < 186 {
+    if s.len() < state_size(keeps) {
         return 5;
     }
-    put_state(s, x);
+    put_state(s, keeps, x);
     0
 }
 
 // The same for a fresh state, whose body is zero bytes alone. A second caller of `write_state` in the entries would keep it out
 // of the step's own code.
-pub fn write_fresh(s: &mut [u8]) -> u16
-    ensures { λ r. ⌜ (r ≡ roomFault (stateFrame freshSupervisor) (now (s .entry))) × (now (s .exit) ≡ frameWritten (stateFrame freshSupervisor) (now (s .entry))) ⌝ }
+pub fn write_fresh(s: &mut [u8], keeps: bool) -> u16
+    ensures { λ r. ⌜ (r ≡ roomFault (stateFrame keeps freshSupervisor) (now (s .entry))) × (now (s .exit) ≡ frameWritten (stateFrame keeps freshSupervisor) (now (s .entry))) ⌝ }
 {
-    if s.len() < 186 {
+    let size = state_size(keeps);
+    if s.len() < size {
         return 5;
     }
-    wire::put_head(s, 5, 184);
-    wire::put_zeros(s, 4, 182);
+    let kind = state_kind(keeps);
+    let len = state_length(keeps);
+    wire::put_head(s, kind, len);
+    wire::put_zeros(s, 4, size - 4);
     0
 }

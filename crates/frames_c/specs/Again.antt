@@ -1,6 +1,6 @@
 -- A frame read and written anew: the number and the slice written to. Assumes nothing.
 use Prim.Native.Nat.{ℕ}
-use mathlib.Core.Bool.{cond}
+use mathlib.Core.Bool.{false, cond}
 use mathlib.Core.List.{List}
 use lib.Dec.{eqb}
 use Rattle.wire.specs.Frame.{roomFault, frameWritten}
@@ -36,6 +36,7 @@ telemetryAgain (TelemetryRead.Frame t) to = written (telemetryFrame t) to
 abbrev pub decisionAgain : DecisionRead → List ℕ → Again
 decisionAgain read to = cond (eqb (read .refused) 0) (written (decisionFrame (read .decision)) to) (refused (read .refused) to)
 
+-- kind 5
 abbrev pub stateAgain : StateRead → List ℕ → Again
 stateAgain (StateRead.Refused n) to = refused n to
-stateAgain (StateRead.Frame x) to = written (stateFrame x) to
+stateAgain (StateRead.Frame x) to = written (stateFrame false x) to

@@ -1,4 +1,5 @@
 // A frame read and its value written anew, for C, to time the frames.
+ghost use mathlib.Core.Bool.{false};
 ghost use mathlib.Core.Path.{_≡_};
 ghost use Rattle.frame_config.specs.ConfigFrame.{readConfig};
 ghost use Rattle.frame_decision.specs.DecisionFrame.{readDecision};
@@ -46,11 +47,11 @@ pub extern "C" fn decision_again(frame: &[u8], to: &mut [u8]) -> u32
 
 #[no_mangle]
 pub extern "C" fn state_again(frame: &[u8], to: &mut [u8]) -> u32
-    ensures { λ r. ⌜ r ≡ stateAgain (readState (now (frame .entry))) (now (to .entry)) .number ⌝ }
-    ensures { λ _. ⌜ now (to .exit) ≡ stateAgain (readState (now (frame .entry))) (now (to .entry)) .slice ⌝ }
+    ensures { λ r. ⌜ r ≡ stateAgain (readState false (now (frame .entry))) (now (to .entry)) .number ⌝ }
+    ensures { λ _. ⌜ now (to .exit) ≡ stateAgain (readState false (now (frame .entry))) (now (to .entry)) .slice ⌝ }
 {
-    match frame_state::read_state(frame) {
+    match frame_state::read_state(frame, false) {
         StateRead::Refused(n) => n as u32,
-        StateRead::Frame(x) => frame_state::write_state(to, x) as u32,
+        StateRead::Frame(x) => frame_state::write_state(to, false, x) as u32,
     }
 }

@@ -14,7 +14,7 @@ use Rattle.validate.specs.Glitch.{applyGlitchFilter}
 use Rattle.triggers.specs.Update.{withoutGcsTimer, update}
 use Rattle.arbiter.specs.Arbiter.{withoutRecovery, applyPersistence, applyFeasibility, arbitrate}
 use Rattle.disarm.specs.Disarm.{gateOpen, evaluate}
-use Rattle.supervisor.specs.Clock.{clockFault, clockStep}
+use Rattle.clock.specs.Clock.{clockFault, clockStep}
 use Rattle.supervisor.specs.Step.{sense, disarmed, disarmedDecision, flown, step}
 use Rattle.instances.specs.Small.{SmallInstances}
 

@@ -30,7 +30,7 @@ use Rattle.config.specs.Default.{defaultConfig, defaultFence}
 use Rattle.energy.specs.Energy.{rtlEnergy}
 use Rattle.validate.specs.declared.GlitchState.{GlitchState}
 use Rattle.validate.specs.Fresh.{confirmedDisarm, positionValid}
-use Rattle.triggers.specs.declared.Timer.{Timer}
+use Rattle.timers.specs.declared.Timer.{Timer}
 use Rattle.triggers.specs.declared.TriggerState.{TriggerState}
 use Rattle.triggers.specs.Update.{freshTriggers}
 use Rattle.arbiter.specs.declared.ArbiterState.{ArbiterState}
@@ -158,6 +158,7 @@ keeping k =
       «h_rtl» = keep k 9 (whole 30) (whole 121);
       «reserve_wh» = keep k 3 (whole 8) (bits 0x7F80_0000);
       «v_max» = defaultConfig .«v_max»;
+      «keeps_raised» = defaultConfig .«keeps_raised»;
     }
 
 abbrev pub judgedAt : ℕ → ConfigResult
@@ -168,7 +169,7 @@ judgedAt k = checkConfig (keeping k) (keep k 8 true false) (whole 5) (whole 120)
 abbrev pub since : ℕ → Timer
 since t = record { «since_ms» = OptionU32.Some t }
 
--- every other timer runs, both latches are set
+-- every other timer runs, both latches are set, and some of what a kind 11 configuration keeps is raised
 abbrev pub running : OptionU32 → TriggerState
 running link =
     record {
@@ -201,6 +202,7 @@ running link =
       «invalid_active» = true;
       «rc_lost_set» = since 24;
       «gcs_stage» = 2;
+      raised = record { «gps_degraded» = true; «gps_lost» = false; «ekf_unhealthy» = true; «fence_breach» = false; «altitude_min» = true; «battery_warn» = false; «battery_low» = true; «energy_rtl_marginal» = false };
     }
 
 abbrev pub shownLast : Action → Reason → OptionU32 → ArbiterState

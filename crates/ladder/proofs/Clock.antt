@@ -8,8 +8,8 @@ use borrow.Author.Tests.{eq-eqb, ne-eqb, leb-true, leb-false}
 use lib.Dec.{leb, eqb}
 use Rattle.types.specs.declared.OptionU32.{OptionU32}
 use Rattle.time.specs.Time.{Clock, age}
-use Rattle.supervisor.specs.declared.ClockStep.{ClockStep}
-use Rattle.supervisor.specs.Clock.{clockFault, soundClock, clockStep}
+use Rattle.clock.specs.declared.ClockStep.{ClockStep}
+use Rattle.clock.specs.Clock.{clockFault, soundClock, clockStep}
 use Rattle.ladder.specs.Clock.{lastSound, faulted, faultedRow, third}
 
 -- counting to three and beginning anew is counting, modulo three

@@ -11,11 +11,11 @@ use Rattle.arbiter.specs.declared.ArbiterState.{ArbiterState}
 use Rattle.arbiter.specs.declared.Arbitrated.{Arbitrated}
 use Rattle.arbiter.specs.Arbiter.{freshArbiter, wanted, arbitrate}
 use Rattle.supervisor.specs.declared.Supervisor.{Supervisor}
-use Rattle.supervisor.specs.declared.ClockStep.{ClockStep}
+use Rattle.clock.specs.declared.ClockStep.{ClockStep}
 use Rattle.supervisor.specs.declared.Sensed.{Sensed}
 use Rattle.supervisor.specs.declared.Stepped.{Stepped}
 use Rattle.supervisor.specs.Settings.{Settings, Fed}
-use Rattle.supervisor.specs.Clock.{clockStep}
+use Rattle.clock.specs.Clock.{clockStep}
 use Rattle.supervisor.specs.Step.{freshSupervisor, arbiterAfter, glitchAfter, disarmed, disarmedDecision, decisionOf, flown, step}
 use Rattle.ladder.specs.Ladder.{Step, Earlier, withChanges}
 use Rattle.ladder.specs.Clock.{lastSound, faulted, faultedRow, third}

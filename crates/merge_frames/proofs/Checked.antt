@@ -10,7 +10,7 @@ use Rattle.config.specs.declared.Config.{Config}
 use Rattle.wire.specs.Fields.{f32At, byteBelow}
 use Rattle.wire.specs.Frame.{frameFault}
 use Rattle.frame_config.specs.declared.ConfigRead.{ConfigRead}
-use Rattle.frame_config.specs.ConfigFrame.{configAt, readConfig}
+use Rattle.frame_config.specs.ConfigFrame.{configKind, keepsRaised, configAt, readConfig}
 use Rattle.frame_fence.specs.FenceFrame.{readFence}
 use Rattle.frame_telemetry.specs.TelemetryFrame.{readTelemetry}
 use Rattle.flight.specs.declared.Flight.{Flight}
@@ -22,17 +22,20 @@ four z = omega arith
 
 -- a configuration that is read is that of its bytes, and a refusal's number is not 0
 data Reading (s : List ℕ) : ConfigRead → Type 0 where
-  whole : Reading s (ConfigRead.Frame (configAt s))
+  whole : Reading s (ConfigRead.Frame (configAt s (keepsRaised s)))
   faulty : {n : ℕ} → (n ≡ 0 → ⊥) → Reading s (ConfigRead.Refused n)
 
 reading : (s : List ℕ) → Reading s (readConfig s)
 unfolding readConfig
-reading s = at (eqb (frameFault 1 244 s) 0) (byteBelow s 9 2) refl
+reading s = at (eqb fault 0) (byteBelow s 9 2) refl
   where
-    at : (f v : Bool) → eqb (frameFault 1 244 s) 0 ≡ f → Reading s (cond f (cond v (ConfigRead.Frame (configAt s)) (ConfigRead.Refused 4)) (ConfigRead.Refused (frameFault 1 244 s)))
+    fault : ℕ
+    fault = frameFault (configKind (keepsRaised s)) 244 s
+
+    at : (f v : Bool) → eqb fault 0 ≡ f → Reading s (cond f (cond v (ConfigRead.Frame (configAt s (keepsRaised s))) (ConfigRead.Refused 4)) (ConfigRead.Refused fault))
     at true true e = whole
     at true false e = faulty four
-    at false v e = faulty (eqb-false (frameFault 1 244 s) 0 e)
+    at false v e = faulty (eqb-false fault 0 e)
 
 capacity-after : (config fence : List ℕ) (r : ConfigRead) → Reading config r → afterConfig r fence .refused ≡ 0 → afterConfig r fence .cfg .«usable_capacity_wh» ≡ f32At config 5
 unfolding acceptFlight refusedFlight configAt
@@ -41,8 +44,8 @@ capacity-after config fence (ConfigRead.Frame cfg) whole z = at (eqb (readFence 
   where
     at :
         (b : Bool) → eqb (readFence fence .refused) 0 ≡ b →
-        cond b (acceptFlight (configAt config) (readFence fence)) (refusedFlight (readFence fence .refused)) .refused ≡ 0 →
-        cond b (acceptFlight (configAt config) (readFence fence)) (refusedFlight (readFence fence .refused)) .cfg .«usable_capacity_wh» ≡ f32At config 5
+        cond b (acceptFlight (configAt config (keepsRaised config)) (readFence fence)) (refusedFlight (readFence fence .refused)) .refused ≡ 0 →
+        cond b (acceptFlight (configAt config (keepsRaised config)) (readFence fence)) (refusedFlight (readFence fence .refused)) .cfg .«usable_capacity_wh» ≡ f32At config 5
     at true e y = refl
     at false e y = absurd (eqb-false (readFence fence .refused) 0 e y)
 

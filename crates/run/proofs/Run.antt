@@ -1,6 +1,6 @@
 -- Demand 3 for every list of calls of the step entry, by the ladder's claim for every list of steps: the state image after the calls is the state after the steps,
 -- and the record read off the bytes is the record of those steps. Assumes nothing.
-use Prim.Native.Nat.{ℕ, _≤_}
+use Prim.Native.Nat.{ℕ, _+_, _≤_}
 use mathlib.Core.Bool.{Bool, true, false, cond}
 use mathlib.Core.List.{List, [], _∷_, _++_}
 use mathlib.Core.Logic.{_⊎_, ⊎-elim, inl, inr}
@@ -21,8 +21,8 @@ use Rattle.supervisor.specs.declared.Supervisor.{Supervisor}
 use Rattle.supervisor.specs.declared.Stepped.{Stepped}
 use Rattle.supervisor.specs.Settings.{Site, Fed, baseSettings, fenceSite, fenceSiteBy, withAreas, fedAt}
 use Rattle.supervisor.specs.Step.{freshSupervisor, step}
-use Rattle.supervisor.specs.Rules.{Rules}
-use Rattle.supervisor.proofs.Rules.{either, fresh-rules, step-rules}
+use Rattle.supervisor.specs.Rules.{Rules, RaisedFits}
+use Rattle.supervisor.proofs.Rules.{either, fresh-rules, step-rules, fresh-fits, step-fits}
 use Rattle.wire.specs.Fields.{Bytes, u8At, leBytes, le8, le16}
 use Rattle.wire.specs.Frame.{frameFault, frameHead, roomFault, frameWritten}
 use Rattle.options.specs.Enums.{actionOrNominal, actionAt, leAction}
@@ -30,7 +30,7 @@ use Rattle.frame_config.specs.declared.ConfigRead.{ConfigRead}
 use Rattle.frame_config.specs.ConfigFrame.{readConfig}
 use Rattle.frame_fence.specs.FenceFrame.{readFence}
 use Rattle.frame_state.specs.declared.StateRead.{StateRead}
-use Rattle.frame_state.specs.StateFrame.{readState, stateFrame, Typed}
+use Rattle.frame_state.specs.StateFrame.{stateLength, readState, stateFrame, Typed}
 use Rattle.frame_state.proofs.Size.{size as state-size}
 use Rattle.frame_state.proofs.Trips.{value-back}
 use Rattle.frame_telemetry.specs.declared.TelemetryRead.{TelemetryRead}
@@ -39,12 +39,12 @@ use Rattle.frame_decision.specs.DecisionFrame.{decisionFrame}
 use Rattle.frame_side.specs.SideFrame.{sideFrame}
 use Rattle.flight.specs.declared.Flight.{Flight}
 use Rattle.flight.specs.Flight.{acceptFlight, refusedFlight, afterConfig, readFlight, stepFlight}
-use Rattle.entries.specs.Entry.{StepCall, declined, outputFrame, outputSize, succeeded, written, afterTelemetry, afterState, refusedFirst, afterFlight, stepAny, freshCall}
+use Rattle.entries.specs.Entry.{flightKeeps, StepCall, declined, outputFrame, outputSize, succeeded, written, afterTelemetry, afterState, refusedFirst, afterFlight, stepAny, freshCall}
 use Rattle.entries.proofs.Declined.{declined-keeps}
 use Rattle.ladder.specs.Record.{Line, stateAfter, recordOf, stepsOf}
 use Rattle.ladder.specs.Claim.{ObeysAll}
 use Rattle.ladder.proofs.Run.{ladder-claim}
-use Rattle.run.specs.Run.{Call, on, shownAction, flightOf, fedBy, stateBytes, answered, Under, UnderConfig, fed, recordOfCalls, RunClaim, SameFlight, OneFlightClaim}
+use Rattle.run.specs.Run.{Call, stateSize, on, shownAction, flightOf, fedBy, stateBytes, answered, Under, UnderConfig, fed, recordOfCalls, RunClaim, SameFlight, OneFlightClaim}
 use Rattle.run.proofs.Typed.{fresh-typed, step-typed, read-now, read-position}
 
 -- ---- an accepted flight steps with the fence's own distance
@@ -79,10 +79,10 @@ telemetry-read withSide f areas x s state output h = at (eqb (frameFault 3 104 s
     at true false e z = absurd (eqb-false 4 0 refl z)
     at false b e z = absurd (eqb-false (frameFault 3 104 s) 0 e z)
 
-roomy : (withSide : Bool) (next : Stepped) (state output : List ℕ) → written withSide next state output .number ≡ 0 → written withSide next state output ≡ succeeded withSide next output
-roomy withSide next state output z = at (ltb (length output) (outputSize withSide)) z
+roomy : (withSide keeps : Bool) (next : Stepped) (state output : List ℕ) → written withSide keeps next state output .number ≡ 0 → written withSide keeps next state output ≡ succeeded withSide keeps next output
+roomy withSide keeps next state output z = at (ltb (length output) (outputSize withSide)) z
   where
-    at : (b : Bool) → cond b (declined 5 state output) (succeeded withSide next output) .number ≡ 0 → cond b (declined 5 state output) (succeeded withSide next output) ≡ succeeded withSide next output
+    at : (b : Bool) → cond b (declined 5 state output) (succeeded withSide keeps next output) .number ≡ 0 → cond b (declined 5 state output) (succeeded withSide keeps next output) ≡ succeeded withSide keeps next output
     at true e = absurd (eqb-false 5 0 refl e)
     at false e = refl
 
@@ -95,13 +95,13 @@ action-shown true d side rest = ap actionOrNominal (action-of-rank (d .action))
 
 -- ---- a run begins with a fresh state
 
-begins : (slice : List ℕ) → 186 ≤ length slice → (freshCall slice .number ≡ 0) × (take 186 (freshCall slice .state) ≡ stateFrame freshSupervisor)
+begins : (keeps : Bool) (slice : List ℕ) → stateSize keeps ≤ length slice → (freshCall keeps slice .number ≡ 0) × (take (stateSize keeps) (freshCall keeps slice .state) ≡ stateFrame keeps freshSupervisor)
 unfolding freshCall roomFault frameWritten
-begins slice h =
-    let s = state-size freshSupervisor in
-    let n = le-ltb (length slice) (length (stateFrame freshSupervisor)) (omega arith) in
-    let f = stateFrame freshSupervisor in
-    (rw n, rw n (take-append-le 186 f (drop (length f) slice) (omega arith) ∙ ap (λ (m : ℕ). take m f) (sym s) ∙ take-length f))
+begins keeps slice h =
+    let f = stateFrame keeps freshSupervisor in
+    let s = state-size keeps freshSupervisor in
+    let n = le-ltb (length slice) (length f) (omega arith) in
+    (rw n, rw n (take-append-le (stateSize keeps) f (drop (length f) slice) (omega arith) ∙ ap (λ (m : ℕ). take m f) (sym s) ∙ take-length f))
 
 -- ---- a call that steps
 
@@ -110,12 +110,12 @@ accepts : (c : Call) (state : List ℕ) → on c state .number ≡ 0 → refused
 unfolding stepAny
 accepts c state z = at (eqb (refusedFirst (flightOf c) (c .areas)) 0) refl z
   where
-    at : (b : Bool) → eqb (refusedFirst (flightOf c) (c .areas)) 0 ≡ b → cond b (afterState (c .withSide) (readState state) (flightOf c) (c .areas) state (c .telemetry) (c .output)) (declined (refusedFirst (flightOf c) (c .areas)) state (c .output)) .number ≡ 0 → refusedFirst (flightOf c) (c .areas) ≡ 0
+    at : (b : Bool) → eqb (refusedFirst (flightOf c) (c .areas)) 0 ≡ b → cond b (afterState (c .withSide) (readState (flightKeeps (flightOf c)) state) (flightOf c) (c .areas) state (c .telemetry) (c .output)) (declined (refusedFirst (flightOf c) (c .areas)) state (c .output)) .number ≡ 0 → refusedFirst (flightOf c) (c .areas) ≡ 0
     at true e z = eqb-true _ _ e
     at false e z = z
 
 -- from a state image that is a state's
-stepped : (c : Call) (x : Supervisor) (state : List ℕ) → readState state ≡ StateRead.Frame x → on c state .number ≡ 0 → on c state ≡ succeeded (c .withSide) (step (baseSettings (flightOf c .cfg)) x (fedBy c)) (c .output)
+stepped : (c : Call) (x : Supervisor) (state : List ℕ) → readState (flightKeeps (flightOf c)) state ≡ StateRead.Frame x → on c state .number ≡ 0 → on c state ≡ succeeded (c .withSide) (flightKeeps (flightOf c)) (step (baseSettings (flightOf c .cfg)) x (fedBy c)) (c .output)
 unfolding stepAny stepFlight
 stepped c x state r z =
     let w = c .withSide in
@@ -126,77 +126,83 @@ stepped c x state r z =
     let next = stepFlight f areas x (telemetryAt telemetry) in
     let a : afterFlight w f areas state telemetry output ≡ afterTelemetry w (readTelemetry telemetry) f areas x state output = rw (eq-eqb _ _ (accepts c state z)) (ap (λ (q : StateRead). afterState w q f areas state telemetry output) r) in
     let b = telemetry-read w f areas x telemetry state output (sym (ap (λ (q : StepCall). q .number) a) ∙ z) in
-    let e : afterFlight w f areas state telemetry output ≡ written w next state output = a ∙ ap (λ (q : TelemetryRead). afterTelemetry w q f areas x state output) b in
+    let e : afterFlight w f areas state telemetry output ≡ written w (flightKeeps f) next state output = a ∙ ap (λ (q : TelemetryRead). afterTelemetry w q f areas x state output) b in
     e
-    ∙ roomy w next state output (sym (ap (λ (q : StepCall). q .number) e) ∙ z)
-    ∙ ap (λ (site : Site). succeeded w (step (baseSettings (f .cfg)) x (fedAt (withAreas areas site) (telemetryAt telemetry))) output) (flight-site (c .config) (c .fence))
+    ∙ roomy w (flightKeeps f) next state output (sym (ap (λ (q : StepCall). q .number) e) ∙ z)
+    ∙ ap (λ (site : Site). succeeded w (flightKeeps f) (step (baseSettings (f .cfg)) x (fedAt (withAreas areas site) (telemetryAt telemetry))) output) (flight-site (c .config) (c .fence))
 
-module _ (slice : List ℕ) (room : 186 ≤ length slice) (cfg : Config) where
+module _ (cfg : Config) (slice : List ℕ) (room : stateSize (cfg .«keeps_raised») ≤ length slice) where
+  abbrev keeps : Bool
+  keeps = cfg .«keeps_raised»
+
   after : List Fed → Supervisor
   after fs = stateAfter (baseSettings cfg) fs
 
   -- the state image, and the record, are those of the steps
   record Agrees (bytes : List ℕ) (fs : List Fed) (lines : List Line) : Type 0 where
-    image : bytes ≡ stateFrame (after fs)
+    image : bytes ≡ stateFrame keeps (after fs)
     typed : Typed (after fs)
     rules : Rules (after fs)
+    fits : RaisedFits keeps (after fs)
     record-is : lines ≡ recordOf (baseSettings cfg) fs
 
   -- what a call that steps under this configuration leaves: the next state's image, and the Decision's action in the output
-  leaves : (x : Supervisor) (c : Call) (state : List ℕ) → flightOf c .cfg ≡ cfg → readState state ≡ StateRead.Frame x → on c state .number ≡ 0 → (on c state .state ≡ stateFrame (step (baseSettings cfg) x (fedBy c) .supervisor)) × (shownAction (on c state .output) ≡ step (baseSettings cfg) x (fedBy c) .decision .action)
+  leaves : (x : Supervisor) (c : Call) (state : List ℕ) → flightOf c .cfg ≡ cfg → readState keeps state ≡ StateRead.Frame x → on c state .number ≡ 0 → (on c state .state ≡ stateFrame keeps (step (baseSettings cfg) x (fedBy c) .supervisor)) × (shownAction (on c state .output) ≡ step (baseSettings cfg) x (fedBy c) .decision .action)
   leaves x c state same r z =
-      let is = stepped c x state r z in
+      let is = stepped c x state (ap (λ (k : Config). readState (k .«keeps_raised») state) same ∙ r) z in
       let next = step (baseSettings (flightOf c .cfg)) x (fedBy c) in (
-        ap (λ (q : StepCall). q .state) is ∙ (λ i. stateFrame (step (baseSettings (same i)) x (fedBy c) .supervisor)),
+        ap (λ (q : StepCall). q .state) is ∙ (λ i. stateFrame (same i .«keeps_raised») (step (baseSettings (same i)) x (fedBy c) .supervisor)),
         ap (λ (q : StepCall). shownAction (q .output)) is ∙ action-shown (c .withSide) (next .decision) (next .side) (drop (outputSize (c .withSide)) (c .output)) ∙ (λ i. step (baseSettings (same i)) x (fedBy c) .decision .action),
       )
 
-  next : (c : Call) (earlier : List Call) → Bytes (c .telemetry) → ((answered slice c earlier .number ≡ 0 → ⊥) ⊎ (flightOf c .cfg ≡ cfg)) → Agrees (stateBytes slice earlier) (fed slice earlier) (recordOfCalls slice earlier) → Agrees (stateBytes slice (c ∷ earlier)) (fed slice (c ∷ earlier)) (recordOfCalls slice (c ∷ earlier))
+  next : (c : Call) (earlier : List Call) → Bytes (c .telemetry) → ((answered keeps slice c earlier .number ≡ 0 → ⊥) ⊎ (flightOf c .cfg ≡ cfg)) → Agrees (stateBytes keeps slice earlier) (fed keeps slice earlier) (recordOfCalls keeps slice earlier) → Agrees (stateBytes keeps slice (c ∷ earlier)) (fed keeps slice (c ∷ earlier)) (recordOfCalls keeps slice (c ∷ earlier))
   unfolding stateBytes fed recordOfCalls stateAfter recordOf after
-  next c earlier bytes under i = at (eqb (answered slice c earlier .number) 0) refl
+  next c earlier bytes under i = at (eqb (answered keeps slice c earlier .number) 0) refl
     where
-      at : (b : Bool) → eqb (answered slice c earlier .number) 0 ≡ b → Agrees (answered slice c earlier .state) (cond b (fedBy c ∷ fed slice earlier) (fed slice earlier)) (cond b (record { fed = fedBy c; action = shownAction (answered slice c earlier .output) } ∷ recordOfCalls slice earlier) (recordOfCalls slice earlier))
-      at false e = record { image = declined-keeps (c .withSide) (c .config) (c .fence) (stateBytes slice earlier) (c .telemetry) (c .output) (c .areas) e .0 ∙ i .image; typed = i .typed; rules = i .rules; record-is = i .record-is }
+      at : (b : Bool) → eqb (answered keeps slice c earlier .number) 0 ≡ b → Agrees (answered keeps slice c earlier .state) (cond b (fedBy c ∷ fed keeps slice earlier) (fed keeps slice earlier)) (cond b (record { fed = fedBy c; action = shownAction (answered keeps slice c earlier .output) } ∷ recordOfCalls keeps slice earlier) (recordOfCalls keeps slice earlier))
+      at false e = record { image = declined-keeps (c .withSide) (c .config) (c .fence) (stateBytes keeps slice earlier) (c .telemetry) (c .output) (c .areas) e .0 ∙ i .image; typed = i .typed; rules = i .rules; fits = i .fits; record-is = i .record-is }
       at true e =
-          let z = eqb-true (answered slice c earlier .number) 0 e in
+          let z = eqb-true (answered keeps slice c earlier .number) 0 e in
           let one = ⊎-elim (λ n. absurd (n z)) (λ (o : flightOf c .cfg ≡ cfg). o) under in
-          let x = after (fed slice earlier) in
-          let r = ap readState (i .image) ∙ value-back x (i .typed) (i .rules) in
-          let l = leaves x c (stateBytes slice earlier) one r z in
+          let x = after (fed keeps slice earlier) in
+          let r = ap (readState keeps) (i .image) ∙ value-back keeps x (i .typed) (i .rules) (i .fits) in
+          let l = leaves x c (stateBytes keeps slice earlier) one r z in
           record {
             image = l .0;
             typed = step-typed (baseSettings cfg) x (fedBy c) (i .typed) (read-now (c .telemetry) bytes) (read-position (c .telemetry) bytes);
             rules = step-rules (baseSettings cfg) x (fedBy c) (i .rules);
+            fits = step-fits (baseSettings cfg) x (fedBy c) (i .fits);
             record-is = λ j. record { fed = fedBy c; action = l .1 j } ∷ i .record-is j;
           }
 
-  agrees : (calls : List Call) → UnderConfig slice cfg calls → Agrees (stateBytes slice calls) (fed slice calls) (recordOfCalls slice calls)
+  agrees : (calls : List Call) → UnderConfig keeps slice cfg calls → Agrees (stateBytes keeps slice calls) (fed keeps slice calls) (recordOfCalls keeps slice calls)
   unfolding stateBytes fed recordOfCalls stateAfter recordOf after
-  agrees [] u = record { image = begins slice room .1; typed = fresh-typed; rules = fresh-rules; record-is = refl }
+  agrees [] u = record { image = begins keeps slice room .1; typed = fresh-typed; rules = fresh-rules; fits = fresh-fits keeps; record-is = refl }
   agrees (c ∷ earlier) u = next c earlier (u .0) (u .1 .0) (agrees earlier (u .1 .1))
 
 -- the theorem
 pub run-claim : RunClaim
 unfolding after
-run-claim slice room cfg calls u =
-    let a = agrees slice room cfg calls u in
+run-claim cfg slice room calls u =
+    let a = agrees cfg slice room calls u in
     record {
-      begun = begins slice room .0;
+      begun = begins (cfg .«keeps_raised») slice room .0;
       ladder =
           subst
           (λ (l : List Line). ObeysAll wrapping (cfg .«recovery_hold_ms») (stepsOf (baseSettings cfg) l))
           (sym (a .record-is))
-          (ladder-claim (baseSettings cfg) (fed slice calls));
-      accepted = ap readState (a .image) ∙ value-back _ (a .typed) (a .rules);
+          (ladder-claim (baseSettings cfg) (fed (cfg .«keeps_raised») slice calls));
+      accepted = ap (readState (cfg .«keeps_raised»)) (a .image) ∙ value-back _ _ (a .typed) (a .rules) (a .fits);
     }
 
 -- calls that step under a weaker condition
-weaker : (slice : List ℕ) (P Q : Flight → Type 0) → ((f : Flight) → P f → Q f) → (calls : List Call) → Under slice P calls → Under slice Q calls
-weaker slice P Q h [] u = tt
-weaker slice P Q h (c ∷ earlier) u = (u .0, (⊎-elim (λ (n : answered slice c earlier .number ≡ 0 → ⊥). inl n) (λ (p : P (flightOf c)). inr (h (flightOf c) p)) (u .1 .0), weaker slice P Q h earlier (u .1 .1)))
+weaker : (keeps : Bool) (slice : List ℕ) (P Q : Flight → Type 0) → ((f : Flight) → P f → Q f) → (calls : List Call) → Under keeps slice P calls → Under keeps slice Q calls
+weaker keeps slice P Q h [] u = tt
+weaker keeps slice P Q h (c ∷ earlier) u = (u .0, (⊎-elim (λ (n : answered keeps slice c earlier .number ≡ 0 → ⊥). inl n) (λ (p : P (flightOf c)). inr (h (flightOf c) p)) (u .1 .0), weaker keeps slice P Q h earlier (u .1 .1)))
 
 -- its case of one accepted configuration and fence
 pub one-flight-claim : OneFlightClaim
-one-flight-claim slice room config fence ok calls u =
-    run-claim slice room (readFlight config fence .cfg) calls
-    (weaker slice (SameFlight (readFlight config fence)) (λ (f : Flight). f .cfg ≡ readFlight config fence .cfg) (λ f s. s .0) calls u)
+one-flight-claim config fence ok slice room calls u =
+    let g = readFlight config fence in
+    run-claim (g .cfg) slice room calls
+    (weaker (flightKeeps g) slice (SameFlight g) (λ (f : Flight). f .cfg ≡ g .cfg) (λ f s. s .0) calls u)

@@ -14,14 +14,14 @@ use Rattle.validate.specs.Fresh.{freshTrue}
 use Rattle.supervisor.proofs.Rules.{either}
 use Rattle.wire.specs.Cell.{Within}
 use Rattle.options.specs.Options.{u32OrZero}
-use Rattle.triggers.specs.declared.Timer.{Timer}
-use Rattle.triggers.specs.declared.PairHeld.{PairHeld}
+use Rattle.timers.specs.declared.Timer.{Timer}
+use Rattle.timers.specs.declared.PairHeld.{PairHeld}
 use Rattle.triggers.specs.declared.GcsLink.{GcsLink}
 use Rattle.triggers.specs.declared.StaleBattery.{StaleBattery}
 use Rattle.triggers.specs.declared.OptionPlace.{OptionPlace}
 use Rattle.triggers.specs.declared.TriggerState.{TriggerState}
-use Rattle.triggers.specs.Timer.{cleared, sinceOr, heldSet, holdPair}
-use Rattle.triggers.specs.Families.{rested, invalidInput, gcsAge, gcsStage, gcsClearing, gcsLink, rcLink, gps, ekf, fenceBreach, altitudeMax, altitudeMin, fence, isPresent, staleBattery, batteryWarn, batteryLow, batteryCritical, battery, energyMarginal, energy}
+use Rattle.timers.specs.Timer.{cleared, sinceOr, heldSet, holdPair, rested}
+use Rattle.triggers.specs.Families.{invalidInput, gcsAge, gcsStage, gcsClearing, gcsLink, rcLink, gps, ekf, fenceBreach, altitudeMax, altitudeMin, fence, isPresent, staleBattery, batteryWarn, batteryLow, batteryCritical, battery, energyMarginal, energy}
 use Rattle.triggers.specs.Update.{families, nextTriggers, update}
 use Rattle.frame_state.specs.StateFrame.{timerCells}
 

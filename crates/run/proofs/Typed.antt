@@ -32,9 +32,9 @@ use Rattle.disarm.specs.declared.Evaluated.{Evaluated}
 use Rattle.disarm.specs.declared.DisarmGate.{DisarmGate}
 use Rattle.disarm.specs.Disarm.{closed, gateOpen, holdStart, holdFrom, evaluate}
 use Rattle.supervisor.specs.declared.Supervisor.{Supervisor}
-use Rattle.supervisor.specs.declared.ClockStep.{ClockStep}
+use Rattle.clock.specs.declared.ClockStep.{ClockStep}
 use Rattle.supervisor.specs.Settings.{Settings, Fed}
-use Rattle.supervisor.specs.Clock.{clockFault, soundClock, byAge, clockStep}
+use Rattle.clock.specs.Clock.{clockFault, soundClock, byAge, clockStep}
 use Rattle.supervisor.specs.Step.{freshSupervisor, triggersAfter, arbiterAfter, glitchAfter, sense, disarmed, flown, step}
 use Rattle.supervisor.proofs.Rules.{either}
 use Rattle.wire.specs.Cell.{Within}

@@ -1,5 +1,5 @@
 -- Document 01, 'Run and record', about the bytes that the C host hands over. Lists have the latest call first. Assumes nothing.
-use Prim.Native.Nat.{ℕ, _≤_}
+use Prim.Native.Nat.{ℕ, _+_, _≤_}
 use mathlib.Core.Bool.{Bool, cond}
 use mathlib.Core.List.{List, [], _∷_}
 use mathlib.Core.Logic.{_⊎_}
@@ -13,11 +13,11 @@ use Rattle.supervisor.specs.Settings.{Fed, baseSettings, fenceSite, withAreas, 
 use Rattle.wire.specs.Fields.{Bytes}
 use Rattle.options.specs.Enums.{actionAt}
 use Rattle.frame_state.specs.declared.StateRead.{StateRead}
-use Rattle.frame_state.specs.StateFrame.{readState}
+use Rattle.frame_state.specs.StateFrame.{stateLength, readState}
 use Rattle.frame_telemetry.specs.TelemetryFrame.{telemetryAt}
 use Rattle.flight.specs.declared.Flight.{Flight}
 use Rattle.flight.specs.Flight.{readFlight}
-use Rattle.entries.specs.Entry.{StepCall, stepAny, freshCall}
+use Rattle.entries.specs.Entry.{flightKeeps, StepCall, stepAny, freshCall}
 use Rattle.ladder.specs.Record.{Line, stateAfter, stepsOf}
 use Rattle.ladder.specs.Claim.{ObeysAll}
 
@@ -46,11 +46,15 @@ flightOf c = readFlight (c .config) (c .fence)
 abbrev pub fedBy : Call → Fed
 fedBy c = fedAt (withAreas (c .areas) (fenceSite (flightOf c .fence))) (telemetryAt (c .telemetry))
 
--- a run begins with the state slice that is handed to the fresh entry
-module _ (slice : List ℕ) where
+-- the bytes of a state frame: 186, or 194 where the flight's configuration is of kind 11
+abbrev pub stateSize : Bool → ℕ
+stateSize keeps = 2 + stateLength keeps
+
+-- a run begins with the state slice that is handed to the fresh entry, of kind 12 where the configuration is of kind 11
+module _ (keeps : Bool) (slice : List ℕ) where
   -- "Each call gets the state that the last one returned or, declining, left"; the first gets "the first 186 bytes" of what the fresh entry left
   unfoldable pub stateBytes : List Call → List ℕ
-  stateBytes [] = take 186 (freshCall slice .state)
+  stateBytes [] = take (stateSize keeps) (freshCall keeps slice .state)
   stateBytes (c ∷ earlier) = on c (stateBytes earlier) .state
 
   -- a call after earlier ones: its number and buffers
@@ -83,18 +87,21 @@ module _ (slice : List ℕ) where
       (record { fed = fedBy c; action = shownAction (answered c earlier .output) } ∷ recordOfCalls earlier)
       (recordOfCalls earlier)
 
-  -- what holds of a run
-  pub record RunObeys (cfg : Config) (calls : List Call) : Type 0 where
-    -- the fresh entry answers 0
-    pub begun : freshCall slice .number ≡ 0
-    -- demand 3, read off the record alone
-    pub ladder : ObeysAll wrapping (cfg .«recovery_hold_ms») (stepsOf (baseSettings cfg) (recordOfCalls calls))
-    -- the state image is always accepted again: no run is declined for its own state
-    pub accepted : readState (stateBytes calls) ≡ StateRead.Frame (stateAfter (baseSettings cfg) (fed calls))
+-- what holds of a run under a configuration
+pub record RunObeys (slice : List ℕ) (cfg : Config) (calls : List Call) : Type 0 where
+  -- the fresh entry answers 0
+  pub begun : freshCall (cfg .«keeps_raised») slice .number ≡ 0
+  -- demand 3, read off the record alone
+  pub ladder : ObeysAll wrapping (cfg .«recovery_hold_ms») (stepsOf (baseSettings cfg) (recordOfCalls (cfg .«keeps_raised») slice calls))
+  -- the state image is always accepted again: no run is declined for its own state
+  pub accepted : readState (cfg .«keeps_raised») (stateBytes (cfg .«keeps_raised») slice calls) ≡ StateRead.Frame (stateAfter (baseSettings cfg) (fed (cfg .«keeps_raised») slice calls))
 
--- "for every list": every state slice of at least a frame's 186 bytes, every configuration, every list of calls, each with its own fence and areas, declined ones with any bytes among them
+-- "for every list": every configuration, of kind 1 or 11, every state slice of at least a frame's bytes, every list of calls, each with its own fence and
+-- areas, declined ones with any bytes among them
 abbrev pub RunClaim : Type 0
-RunClaim = (slice : List ℕ) → 186 ≤ length slice → (cfg : Config) (calls : List Call) → UnderConfig slice cfg calls → RunObeys slice cfg calls
+RunClaim =
+    (cfg : Config) (slice : List ℕ) → stateSize (cfg .«keeps_raised») ≤ length slice
+    → (calls : List Call) → UnderConfig (cfg .«keeps_raised») slice cfg calls → RunObeys slice cfg calls
 
 -- "under one accepted configuration and fence", by what is read and accepted: the bytes may differ
 abbrev pub SameFlight : Flight → Flight → Type 0
@@ -103,7 +110,7 @@ SameFlight g f = (f .cfg ≡ g .cfg) × (f .fence ≡ g .fence)
 -- document 01's claim: the case of one fence
 abbrev pub OneFlightClaim : Type 0
 OneFlightClaim =
-    (slice : List ℕ) → 186 ≤ length slice
-    → (config fence : List ℕ) → readFlight config fence .refused ≡ 0
-    → (calls : List Call) → Under slice (SameFlight (readFlight config fence)) calls
+    (config fence : List ℕ) → readFlight config fence .refused ≡ 0
+    → (slice : List ℕ) → stateSize (flightKeeps (readFlight config fence)) ≤ length slice
+    → (calls : List Call) → Under (flightKeeps (readFlight config fence)) slice (SameFlight (readFlight config fence)) calls
     → RunObeys slice (readFlight config fence .cfg) calls

@@ -10,10 +10,10 @@ use Rattle.triggers.specs.Update.{freshTriggers, withoutGcsTimer}
 use Rattle.arbiter.specs.Arbiter.{freshArbiter, withoutRecovery}
 use Rattle.disarm.specs.Disarm.{closed}
 use Rattle.supervisor.specs.declared.Supervisor.{Supervisor}
-use Rattle.supervisor.specs.declared.ClockStep.{ClockStep}
+use Rattle.clock.specs.declared.ClockStep.{ClockStep}
 use Rattle.supervisor.specs.declared.Stepped.{Stepped}
 use Rattle.supervisor.specs.Settings.{Settings, Fed}
-use Rattle.supervisor.specs.Clock.{clockStep}
+use Rattle.clock.specs.Clock.{clockStep}
 use Rattle.supervisor.specs.Step.{sense, flown, step}
 
 -- a state whose link timer, recovery start and filter are cleared, and nothing else

@@ -16,7 +16,7 @@ use Rattle.triggers.specs.Families.{battery, energy}
 use Rattle.triggers.specs.Update.{withoutGcsTimer, families, nextTriggers, update}
 use Rattle.supervisor.specs.declared.Supervisor.{Supervisor}
 use Rattle.supervisor.specs.Settings.{Settings, Fed}
-use Rattle.supervisor.specs.Clock.{clockFault, soundClock, byAge, clockStep}
+use Rattle.clock.specs.Clock.{clockFault, soundClock, byAge, clockStep}
 use Rattle.supervisor.specs.Step.{triggersAfter, sense, flown, step}
 
 or-true : (a b : Bool) → a ≡ true → (a || b) ≡ true

@@ -1,4 +1,4 @@
--- A fresh state obeys the state frame's rules, and a step from a state that does leaves one that does. Assumes nothing.
+-- A fresh state obeys the state frame's rules, and a step from a state that does leaves one that does; what is raised fits the frame likewise. Assumes nothing.
 use Prim.Native.Nat.{ℕ, _+_, _≤_}
 use native.Mathlib.Omega.{arith}
 use mathlib.Core.Bool.{Bool, true, false, cond, _&&_, false≢true}
@@ -22,16 +22,17 @@ use Rattle.validate.specs.Bounds.{withinPosition, withinVelocity, validatePosit
 use Rattle.validate.specs.Glitch.{noGlitch, acceptStored, nextStreak, applyGlitchFilter}
 use Rattle.validate.specs.Fresh.{confirmedDisarm}
 use Rattle.triggers.specs.declared.OptionPlace.{OptionPlace}
-use Rattle.triggers.specs.declared.Timer.{Timer}
+use Rattle.timers.specs.declared.Timer.{Timer}
+use Rattle.triggers.specs.declared.Raised.{Raised}
 use Rattle.triggers.specs.declared.TriggerState.{TriggerState}
-use Rattle.triggers.specs.Timer.{cleared, heldSet}
+use Rattle.timers.specs.Timer.{cleared, heldSet}
 use Rattle.triggers.specs.Families.{gcsAge, gcsStage, gcsClearing, gcsLink}
-use Rattle.triggers.specs.Update.{freshTriggers, withoutGcsTimer, families, nextTriggers, update}
+use Rattle.triggers.specs.Update.{freshTriggers, withoutGcsTimer, noneRaised, keptRaised, families, nextTriggers, update}
 use Rattle.supervisor.specs.declared.Supervisor.{Supervisor}
 use Rattle.supervisor.specs.Settings.{Settings, Fed}
-use Rattle.supervisor.specs.Clock.{clockFault, soundClock, byAge, clockStep}
+use Rattle.clock.specs.Clock.{clockFault, soundClock, byAge, clockStep}
 use Rattle.supervisor.specs.Step.{freshSupervisor, triggersAfter, arbiterAfter, glitchAfter, sense, disarmed, flown, step}
-use Rattle.supervisor.specs.Rules.{finiteVec, finiteStored, Rules}
+use Rattle.supervisor.specs.Rules.{finiteVec, finiteStored, Rules, RaisedFits}
 
 -- ---- truth values
 
@@ -173,4 +174,47 @@ step-rules r s fed h =
       streak = streak;
       stored = filter-finite (r .clock) glitch (t .«now_ms») (t .position) (cfg .«v_max») stored (kept-finite (raw .position));
     })
+    (confirmedDisarm (r .clock) (t .«now_ms») (t .armed) (cfg .«status_fresh_ms»))
+
+-- ---- what is raised
+
+none-fits : (keeps : Bool) → keptRaised keeps noneRaised ≡ noneRaised
+none-fits true = refl
+none-fits false = refl
+
+kept-fits : (keeps : Bool) (on : Raised) → keptRaised keeps (keptRaised keeps on) ≡ keptRaised keeps on
+kept-fits true on = refl
+kept-fits false on = refl
+
+pub fresh-fits : (keeps : Bool) → RaisedFits keeps freshSupervisor
+unfolding freshSupervisor freshTriggers
+fresh-fits keeps = none-fits keeps
+
+-- neither a third fault nor the link's timer has a part in it
+third-raised : (third : Bool) (t : TriggerState) → triggersAfter third t .raised ≡ t .raised
+unfolding withoutGcsTimer
+third-raised true t = refl
+third-raised false t = refl
+
+update-fits : (ck : Clock) (s : TriggerState) (t : Telemetry) (cfg : Config) (lo hi : Float) (p : OptionPlace) (m : OptionF32) (i f : Bool) → keptRaised (cfg .«keeps_raised») (s .raised) ≡ s .raised → keptRaised (cfg .«keeps_raised») (update ck s t cfg lo hi p m i f .triggers .raised) ≡ update ck s t cfg lo hi p m i f .triggers .raised
+unfolding update nextTriggers
+update-fits ck s t cfg lo hi p m i true h = h
+update-fits ck s t cfg lo hi p m i false h = kept-fits (cfg .«keeps_raised») _
+
+pub step-fits : (r : Settings) (s : Supervisor) (fed : Fed) → RaisedFits (r .cfg .«keeps_raised») s → RaisedFits (r .cfg .«keeps_raised») (step r s fed .supervisor)
+unfolding step disarmed flown sense freshTriggers validateTelemetry
+step-fits r s fed h =
+    let raw = fed .telemetry in
+    let cfg = r .cfg in
+    let clock = clockStep (r .clock) (s .«last_now») (s .«epoch_start») (s .«backwards_streak») (s .initialized) (raw .«now_ms») in
+    let v = validateTelemetry raw (cfg .«usable_capacity_wh») in
+    let t = v .telemetry in
+    let glitch = glitchAfter (clock .third) (s .glitch) in
+    let same = third-raised (clock .third) (s .triggers) in
+    let before = ap (keptRaised (cfg .«keeps_raised»)) same ∙ h ∙ sym same in
+    let sensed = sense r (fed .site) (triggersAfter (clock .third) (s .triggers)) glitch t (v .«invalid_input») (clock .fault) in
+    either
+    (λ b. RaisedFits (cfg .«keeps_raised») (cond b (disarmed cfg clock glitch) (flown r sensed (arbiterAfter (clock .third) (s .arbiter)) (s .disarm) clock t) .supervisor))
+    (none-fits (cfg .«keeps_raised»))
+    (update-fits (r .clock) _ _ cfg _ _ _ _ _ (clock .fault) before)
     (confirmedDisarm (r .clock) (t .«now_ms») (t .armed) (cfg .«status_fresh_ms»))

@@ -1,5 +1,4 @@
 -- The definitions that the contracts of `supervisor` cite.
 pub mod Settings
-pub mod Clock
 pub mod Step
 pub mod Rules

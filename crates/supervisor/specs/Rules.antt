@@ -7,6 +7,7 @@ use Rattle.float32.specs.Libm.{isFinite}
 use Rattle.types.specs.declared.Vec3.{Vec3}
 use Rattle.types.specs.declared.PositionSample.{PositionSample}
 use Rattle.types.specs.declared.OptionPositionSample.{OptionPositionSample}
+use Rattle.triggers.specs.Update.{keptRaised}
 use Rattle.supervisor.specs.declared.Supervisor.{Supervisor}
 
 abbrev pub finiteVec : Vec3 → Bool
@@ -21,3 +22,7 @@ pub record Rules (s : Supervisor) : Type 0 where
   pub stage : s .triggers .«gcs_stage» ≤ 3
   pub streak : s .«backwards_streak» ≤ 2
   pub stored : finiteStored (s .glitch .«last_accepted») ≡ true
+
+-- what is raised fits a frame of the configuration's kind: a kind 12 holds it, a kind 5 has no place for it
+abbrev pub RaisedFits : Bool → Supervisor → Type 0
+RaisedFits keeps s = keptRaised keeps (s .triggers .raised) ≡ s .triggers .raised

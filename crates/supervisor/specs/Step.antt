@@ -36,11 +36,11 @@ use Rattle.disarm.specs.declared.DisarmGate.{DisarmGate}
 use Rattle.disarm.specs.Disarm.{closed, evaluate}
 use Rattle.supervisor.specs.declared.Supervisor.{Supervisor}
 use Rattle.supervisor.specs.declared.SupervisorResult.{SupervisorResult}
-use Rattle.supervisor.specs.declared.ClockStep.{ClockStep}
+use Rattle.clock.specs.declared.ClockStep.{ClockStep}
 use Rattle.supervisor.specs.declared.Sensed.{Sensed}
 use Rattle.supervisor.specs.declared.Stepped.{Stepped}
 use Rattle.supervisor.specs.Settings.{Settings, Site, Fed}
-use Rattle.supervisor.specs.Clock.{clockStep}
+use Rattle.clock.specs.Clock.{clockStep}
 
 -- ---- a new supervisor
 

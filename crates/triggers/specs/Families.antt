@@ -17,9 +17,10 @@ use Rattle.types.specs.declared.OptionLandedState.{OptionLandedState}
 use Rattle.time.specs.Time.{Clock, age}
 use Rattle.config.specs.declared.Config.{Config}
 use Rattle.validate.specs.Fresh.{freshGps}
-use Rattle.triggers.specs.declared.Timer.{Timer}
-use Rattle.triggers.specs.declared.Held.{Held}
-use Rattle.triggers.specs.declared.PairHeld.{PairHeld}
+use Rattle.timers.specs.declared.Timer.{Timer}
+use Rattle.timers.specs.declared.Held.{Held}
+use Rattle.timers.specs.declared.PairHeld.{PairHeld}
+use Rattle.timers.specs.Timer.{cleared, pending, heldSet, holdPair, rested}
 use Rattle.triggers.specs.declared.InvalidInput.{InvalidInput}
 use Rattle.triggers.specs.declared.GcsLink.{GcsLink}
 use Rattle.triggers.specs.declared.RcLink.{RcLink}
@@ -31,7 +32,6 @@ use Rattle.triggers.specs.declared.StaleBattery.{StaleBattery}
 use Rattle.triggers.specs.declared.BatteryHeld.{BatteryHeld}
 use Rattle.triggers.specs.declared.EnergyHeld.{EnergyHeld}
 use Rattle.triggers.specs.declared.TriggerState.{TriggerState}
-use Rattle.triggers.specs.Timer.{cleared, pending, heldSet, holdPair}
 
 -- ---- invalid input: active from an invalid step until the clear timer is met
 
@@ -87,6 +87,7 @@ gcsLink clock timer stage now heartbeat cfg =
 
 -- ---- the hand controller: "RcLost is raised from the first bad step, since a pending timer suffices."
 -- Bad is required and not good. Where the set timer is met the clear timer stays as it was.
+-- `met` is for document 02, L11: its set timer has held rc_lost_set_ms.
 
 unfoldable pub rcLink : Clock → Timer → Timer → ℕ → Bool → Config → RcLink
 rcLink clock set clear now good cfg =
@@ -96,6 +97,7 @@ rcLink clock set clear now good cfg =
       set = s .timer;
       clear = cond (s .met) clear (c .timer);
       lost = cond (s .met) true (pending (s .timer) && not (c .met));
+      met = s .met;
     }
 
 -- ---- satellite positioning: degraded, and lost
@@ -153,10 +155,6 @@ unfoldable pub ekf : Clock → Timer → Timer → ℕ → Bool → Config → P
 ekf clock set clear now healthy cfg = holdPair clock set clear now (not healthy) (cfg .«ekf_unhealthy_set_ms») healthy (cfg .«ekf_unhealthy_clear_ms»)
 
 -- ---- the fence and the altitudes
-
--- a pair that rests: its timers as they were, nothing raised
-abbrev pub rested : Timer → Timer → PairHeld
-rested set clear = record { set = set; clear = clear; on = false }
 
 -- inside, and nearer than the limit
 unfoldable pub fenceApproach : Float → Config → Bool

@@ -1,4 +1,3 @@
 -- The definitions that the contracts of `triggers` cite.
-pub mod Timer
 pub mod Families
 pub mod Update

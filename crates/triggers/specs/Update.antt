@@ -14,13 +14,29 @@ use Rattle.config.specs.declared.Config.{Config}
 use Rattle.validate.specs.Fresh.{freshTrue, freshLanded, freshBatteryPercent, freshVoltage}
 use Rattle.triggers.specs.declared.OptionPlace.{OptionPlace}
 use Rattle.triggers.specs.declared.FenceHeld.{FenceHeld}
+use Rattle.triggers.specs.declared.RcLink.{RcLink}
+use Rattle.triggers.specs.declared.Raised.{Raised}
 use Rattle.triggers.specs.declared.Families.{Families}
 use Rattle.triggers.specs.declared.TriggerState.{TriggerState}
 use Rattle.triggers.specs.declared.Updated.{Updated}
-use Rattle.triggers.specs.Timer.{cleared}
+use Rattle.timers.specs.Timer.{cleared, raisedBy}
 use Rattle.triggers.specs.Families.{invalidInput, gcsLink, rcLink, gps, ekf, inAir, fence, staleBattery, battery, energy}
 
--- nothing latched, no timer started
+-- nothing of what a kind 11 configuration keeps
+abbrev pub noneRaised : Raised
+noneRaised =
+    record {
+      «gps_degraded» = false;
+      «gps_lost» = false;
+      «ekf_unhealthy» = false;
+      «fence_breach» = false;
+      «altitude_min» = false;
+      «battery_warn» = false;
+      «battery_low» = false;
+      «energy_rtl_marginal» = false;
+    }
+
+-- nothing latched, no timer started, nothing raised
 unfoldable pub freshTriggers : TriggerState
 freshTriggers =
     record {
@@ -53,6 +69,7 @@ freshTriggers =
       «invalid_active» = false;
       «rc_lost_set» = cleared;
       «gcs_stage» = 0;
+      raised = noneRaised;
     }
 
 -- the same state with the link's timer cleared
@@ -88,6 +105,7 @@ withoutGcsTimer s =
       «invalid_active» = s .«invalid_active»;
       «rc_lost_set» = s .«rc_lost_set»;
       «gcs_stage» = s .«gcs_stage»;
+      raised = s .raised;
     }
 
 -- what each family makes of the readings, which are validated and filtered. `place` is what is read of a valid position, `margin` what is left of
@@ -117,38 +135,62 @@ abbrev pub setOption : ActiveSet → Reason → OptionAction → ActiveSet
 setOption s r OptionAction.None = s
 setOption s r (OptionAction.Some a) = setRequest s r a
 
+-- document 02, L11: "GpsDegraded, GpsLost, EkfUnhealthy, FenceBreach, AltitudeMin, BatteryWarn, BatteryLow and EnergyRtlMarginal", each by its pair of timers;
+-- `keeps` is whether the configuration is of kind 11
+unfoldable pub raisedOf : Bool → Raised → Families → Raised
+raisedOf keeps before f =
+    record {
+      «gps_degraded» = raisedBy keeps (before .«gps_degraded») (f .gps .degraded);
+      «gps_lost» = raisedBy keeps (before .«gps_lost») (f .gps .lost);
+      «ekf_unhealthy» = raisedBy keeps (before .«ekf_unhealthy») (f .ekf);
+      «fence_breach» = raisedBy keeps (before .«fence_breach») (f .fence .breach);
+      «altitude_min» = raisedBy keeps (before .«altitude_min») (f .fence .«alt_min»);
+      «battery_warn» = raisedBy keeps (before .«battery_warn») (f .battery .warn);
+      «battery_low» = raisedBy keeps (before .«battery_low») (f .battery .low);
+      «energy_rtl_marginal» = raisedBy keeps (before .«energy_rtl_marginal») (f .energy .marginal);
+    }
+
+-- what the next step is told of it: under kind 1 nothing, as in the Rust
+abbrev pub keptRaised : Bool → Raised → Raised
+keptRaised keeps on = cond keeps on noneRaised
+
+-- "RcLost is raised where its set timer has held rc_lost_set_ms, and only there."
+abbrev pub rcLost : Bool → RcLink → Bool
+rcLost keeps rc = cond keeps (rc .met) (rc .lost)
+
 -- the requests that the families file, in the Rust's order
-unfoldable pub linkRequests : Families → ActiveSet
-linkRequests f =
+unfoldable pub linkRequests : Bool → Raised → Families → ActiveSet
+linkRequests keeps on f =
     let a1 = setIf emptySet (f .invalid .active) Reason.InvalidInput Action.Warn in
     let a2 = setOption a1 Reason.GcsLinkLost (f .gcs .request) in
-    let a3 = setIf a2 (f .rc .lost) Reason.RcLost Action.ReturnToLaunch in
-    let a4 = setIf a3 (f .gps .degraded .on) Reason.GpsDegraded Action.Warn in
-    let a5 = setIf a4 (f .gps .lost .on) Reason.GpsLost Action.Land in
-    setIf a5 (f .ekf .on) Reason.EkfUnhealthy Action.Land
+    let a3 = setIf a2 (rcLost keeps (f .rc)) Reason.RcLost Action.ReturnToLaunch in
+    let a4 = setIf a3 (on .«gps_degraded») Reason.GpsDegraded Action.Warn in
+    let a5 = setIf a4 (on .«gps_lost») Reason.GpsLost Action.Land in
+    setIf a5 (on .«ekf_unhealthy») Reason.EkfUnhealthy Action.Land
 
-unfoldable pub fenceRequests : ActiveSet → FenceHeld → ActiveSet
-fenceRequests a f =
+-- AltitudeMax is not among those that are kept
+unfoldable pub fenceRequests : ActiveSet → Raised → FenceHeld → ActiveSet
+fenceRequests a on f =
     let a1 = setIf a (f .approach) Reason.FenceApproach Action.Warn in
-    let a2 = setIf a1 (f .breach .on) Reason.FenceBreach Action.ReturnToLaunch in
-    let a3 = setIf a2 (f .«alt_max» .on) Reason.AltitudeMax Action.ReturnToLaunch in
-    setIf a3 (f .«alt_min» .on) Reason.AltitudeMin Action.Warn
+    let a2 = setIf a1 (on .«fence_breach») Reason.FenceBreach Action.ReturnToLaunch in
+    let a3 = setIf a2 (raisedBy false false (f .«alt_max»)) Reason.AltitudeMax Action.ReturnToLaunch in
+    setIf a3 (on .«altitude_min») Reason.AltitudeMin Action.Warn
 
-unfoldable pub batteryRequests : ActiveSet → Families → ActiveSet
-batteryRequests a f =
+unfoldable pub batteryRequests : ActiveSet → Raised → Families → ActiveSet
+batteryRequests a on f =
     let a1 = setIf a (f .stale .stale) Reason.StaleBattery Action.ReturnToLaunch in
-    let a2 = setIf a1 (f .battery .warn .on) Reason.BatteryWarn Action.Warn in
-    let a3 = setIf a2 (f .battery .low .on) Reason.BatteryLow Action.ReturnToLaunch in
+    let a2 = setIf a1 (on .«battery_warn») Reason.BatteryWarn Action.Warn in
+    let a3 = setIf a2 (on .«battery_low») Reason.BatteryLow Action.ReturnToLaunch in
     let a4 = setIf a3 (f .battery .critical) Reason.BatteryCritical Action.Land in
-    let a5 = setIf a4 (f .energy .marginal .on) Reason.EnergyRtlMarginal Action.ReturnToLaunch in
+    let a5 = setIf a4 (on .«energy_rtl_marginal») Reason.EnergyRtlMarginal Action.ReturnToLaunch in
     setIf a5 (f .energy .infeasible) Reason.EnergyRtlInfeasible Action.Land
 
-unfoldable pub requests : Families → ActiveSet
-requests f = batteryRequests (fenceRequests (linkRequests f) (f .fence)) f
+unfoldable pub requests : Bool → Raised → Families → ActiveSet
+requests keeps on f = batteryRequests (fenceRequests (linkRequests keeps on f) on (f .fence)) on f
 
 -- the state that the families leave
-unfoldable pub nextTriggers : Families → TriggerState
-nextTriggers f =
+unfoldable pub nextTriggers : Raised → Families → TriggerState
+nextTriggers kept f =
     record {
       «battery_critical_latched» = f .battery .latched;
       «energy_infeasible_latched» = f .energy .latched;
@@ -179,11 +221,13 @@ nextTriggers f =
       «invalid_active» = f .invalid .active;
       «rc_lost_set» = f .rc .set;
       «gcs_stage» = f .gcs .stage;
+      raised = kept;
     }
 
--- "A clock fault yields only ClockFault and moves no timer in this module"
+-- "A clock fault yields only ClockFault and moves no timer in this module"; under kind 11 it "keeps what is raised"
 unfoldable pub update : Clock → TriggerState → Telemetry → Config → Float → Float → OptionPlace → OptionF32 → Bool → Bool → Updated
 update clock s t cfg minAlt maxAlt place margin invalid true = record { triggers = s; active = setRequest emptySet Reason.ClockFault Action.Warn }
 update clock s t cfg minAlt maxAlt place margin invalid false =
     let f = families clock s t cfg minAlt maxAlt place margin invalid in
-    record { triggers = nextTriggers f; active = requests f }
+    let on = raisedOf (cfg .«keeps_raised») (s .raised) f in
+    record { triggers = nextTriggers (keptRaised (cfg .«keeps_raised») on) f; active = requests (cfg .«keeps_raised») on f }

@@ -1,11 +1,13 @@
-// The Rust's triggers.rs: timers, one function for each family of triggers, and update.
+// The Rust's triggers.rs: one function for each family of triggers, and update. Its timers are in `timers`.
 ghost use mathlib.Core.Path.{_≡_};
 ghost use Rattle.time.specs.Time.{wrapping};
-ghost use Rattle.triggers.specs.Timer.{cleared, pending, heldSet, holdPair};
-ghost use Rattle.triggers.specs.Families.{invalidInput, gcsAge, stageRequest, gcsClearing, gcsStage, gcsLink, rcLink, fewSats, manySats, poorHdop, goodHdop, degraded, recovered, fixed, gps, ekf, rested, fenceApproach, fenceBreach, altitudeMax, inAir, altitudeMin, fence, isPresent, staleBattery, lowVoltage, batteryWarn, batteryLow, batteryCritical, battery, energyMarginal, energy};
-ghost use Rattle.triggers.specs.Update.{freshTriggers, withoutGcsTimer, families, setIf, setOption, linkRequests, fenceRequests, batteryRequests, requests, nextTriggers, update};
+ghost use Rattle.triggers.specs.Families.{invalidInput, gcsAge, stageRequest, gcsClearing, gcsStage, gcsLink, rcLink, fewSats, manySats, poorHdop, goodHdop, degraded, recovered, fixed, gps, ekf, fenceApproach, fenceBreach, altitudeMax, inAir, altitudeMin, fence, isPresent, staleBattery, lowVoltage, batteryWarn, batteryLow, batteryCritical, battery, energyMarginal, energy};
+ghost use Rattle.triggers.specs.Update.{freshTriggers, withoutGcsTimer, families, noneRaised, raisedOf, keptRaised, rcLost, setIf, setOption, linkRequests, fenceRequests, batteryRequests, requests, nextTriggers, update};
 use config::Config;
 use geometry::FenceDistance;
+use timers::Held;
+use timers::PairHeld;
+use timers::Timer;
 use types::Action;
 use types::ActiveSet;
 use types::GpsFix;
@@ -18,95 +20,6 @@ use types::OptionU8;
 use types::OptionU32;
 use types::Reason;
 use types::Telemetry;
-
-pub struct Timer {
-    pub since_ms: OptionU32,
-}
-
-// A timer after a step, and whether its hold is met.
-pub struct Held {
-    pub timer: Timer,
-    pub met: bool,
-}
-
-// The timers that set and clear a trigger after a step, and whether it is raised.
-pub struct PairHeld {
-    pub set: Timer,
-    pub clear: Timer,
-    pub on: bool,
-}
-
-impl Timer {
-    pub fn clear() -> Self
-        ensures { λ r. ⌜ r ≡ cleared ⌝ }
-    {
-        Self {
-            since_ms: OptionU32::None,
-        }
-    }
-
-    pub fn pending(self) -> bool
-        ensures { λ r. ⌜ r ≡ pending self ⌝ }
-    {
-        let s = self.since_ms;
-        match s {
-            OptionU32::Some(_) => true,
-            OptionU32::None => false,
-        }
-    }
-
-    // Starts at the first true step, and is cleared by a false one.
-    pub fn held_set(self, now: u32, active: bool, hold_ms: u32) -> Held
-        ensures { λ r. ⌜ r ≡ heldSet wrapping self now active «hold_ms» ⌝ }
-    {
-        if active {
-            let s = self.since_ms;
-            match s {
-                OptionU32::Some(since) => Held {
-                    timer: Timer {
-                        since_ms: OptionU32::Some(since),
-                    },
-                    met: time::hold_met(now, since, hold_ms),
-                },
-                OptionU32::None => Held {
-                    timer: Timer {
-                        since_ms: OptionU32::Some(now),
-                    },
-                    met: time::hold_met(now, now, hold_ms),
-                },
-            }
-        } else {
-            Held {
-                timer: Timer {
-                    since_ms: OptionU32::None,
-                },
-                met: false,
-            }
-        }
-    }
-}
-
-fn hold_pair(
-    set: Timer,
-    clear: Timer,
-    now: u32,
-    bad: bool,
-    set_ms: u32,
-    good: bool,
-    clear_ms: u32,
-) -> PairHeld
-    ensures { λ r. ⌜ r ≡ holdPair wrapping set clear now bad «set_ms» good «clear_ms» ⌝ }
-{
-    let s = set.held_set(now, bad, set_ms);
-    let c = clear.held_set(now, good, clear_ms);
-    let st = s.timer;
-    let ct = c.timer;
-    PairHeld {
-        set: st,
-        clear: ct,
-        on: s.met & !c.met,
-    }
-}
 
 // ---- invalid input
 
@@ -225,13 +138,14 @@ fn gcs_link(timer: Timer, stage: u8, now: u32, heartbeat: OptionU32, cfg: Config
 
 // ---- the hand controller
 
+// `lost`: raised from the first bad step, since a pending timer suffices. `met`: the set timer has held its time.
 pub struct RcLink {
     pub set: Timer,
     pub clear: Timer,
     pub lost: bool,
+    pub met: bool,
 }
 
-// Raised from the first bad step, since a pending timer suffices.
 fn rc_link(set: Timer, clear: Timer, now: u32, good: bool, cfg: Config) -> RcLink
     ensures { λ r. ⌜ r ≡ rcLink wrapping set clear now good cfg ⌝ }
 {
@@ -243,6 +157,7 @@ fn rc_link(set: Timer, clear: Timer, now: u32, good: bool, cfg: Config) -> RcLin
             set: st,
             clear: clear,
             lost: true,
+            met: true,
         };
     }
     let c = clear.held_set(now, good, cfg.rc_lost_clear_ms);
@@ -252,6 +167,7 @@ fn rc_link(set: Timer, clear: Timer, now: u32, good: bool, cfg: Config) -> RcLin
         set: st,
         clear: ct,
         lost: p & !c.met,
+        met: false,
     }
 }
 
@@ -355,7 +271,7 @@ fn gps_held(s: TriggerState, now: u32, sample: OptionGpsSample, cfg: Config) -> 
     let bad = is_degraded(g);
     let good = is_recovered(g);
     let fix = is_fixed(g);
-    let d = hold_pair(
+    let d = timers::hold_pair(
         d1,
         d2,
         now,
@@ -364,7 +280,7 @@ fn gps_held(s: TriggerState, now: u32, sample: OptionGpsSample, cfg: Config) -> 
         good,
         cfg.gps_degraded_clear_ms,
     );
-    let l = hold_pair(
+    let l = timers::hold_pair(
         l1,
         l2,
         now,
@@ -400,17 +316,6 @@ pub struct FenceHeld {
     pub alt_min: PairHeld,
 }
 
-// A pair that rests: its timers as they were, and nothing raised.
-fn rested(set: Timer, clear: Timer) -> PairHeld
-    ensures { λ r. ⌜ r ≡ rested set clear ⌝ }
-{
-    PairHeld {
-        set: set,
-        clear: clear,
-        on: false,
-    }
-}
-
 fn fence_approach(dist: f32, cfg: Config) -> bool
     ensures { λ r. ⌜ r ≡ fenceApproach dist cfg ⌝ }
 {
@@ -422,7 +327,7 @@ fn fence_breach(set: Timer, clear: Timer, now: u32, dist: f32, cfg: Config) -> P
 {
     let bad = dist < 0.0;
     let good = cfg.fence_breach_clear_m <= dist;
-    hold_pair(
+    timers::hold_pair(
         set,
         clear,
         now,
@@ -446,7 +351,7 @@ fn altitude_max(
 {
     if max_alt_m < alt {
         let good = alt < max_alt_m - cfg.alt_max_clear_m;
-        hold_pair(
+        timers::hold_pair(
             set,
             clear,
             now,
@@ -456,7 +361,7 @@ fn altitude_max(
             cfg.alt_max_clear_hold_ms,
         )
     } else {
-        rested(Timer::clear(), Timer::clear())
+        timers::rested(Timer::clear(), Timer::clear())
     }
 }
 
@@ -490,7 +395,7 @@ fn altitude_min(
     let home = place.home_dist_m;
     let bad = (alt < min_alt_m) & (cfg.alt_min_home_radius_m < home) & flying;
     let good = (min_alt_m + cfg.alt_min_clear_m < alt) | (home <= cfg.alt_min_home_radius_m);
-    hold_pair(
+    timers::hold_pair(
         set,
         clear,
         now,
@@ -534,9 +439,9 @@ fn fence_held(
         }
         OptionPlace::None => FenceHeld {
             approach: false,
-            breach: rested(b1, b2),
-            alt_max: rested(h1, h2),
-            alt_min: rested(l1, l2),
+            breach: timers::rested(b1, b2),
+            alt_max: timers::rested(h1, h2),
+            alt_min: timers::rested(l1, l2),
         },
     }
 }
@@ -606,7 +511,7 @@ fn battery_warn(set: Timer, clear: Timer, now: u32, p: f32, cfg: Config) -> Pair
 {
     let bad = p < cfg.battery_warn_pct;
     let good = cfg.battery_warn_clear_pct < p;
-    hold_pair(
+    timers::hold_pair(
         set,
         clear,
         now,
@@ -622,7 +527,7 @@ fn battery_low(set: Timer, clear: Timer, now: u32, p: f32, cfg: Config) -> PairH
 {
     let bad = p < cfg.battery_low_pct;
     let good = cfg.battery_low_clear_pct < p;
-    hold_pair(
+    timers::hold_pair(
         set,
         clear,
         now,
@@ -675,8 +580,8 @@ fn battery_held(
             }
         }
         OptionF32::None => BatteryHeld {
-            warn: rested(w1, w2),
-            low: rested(l1, l2),
+            warn: timers::rested(w1, w2),
+            low: timers::rested(l1, l2),
             crit_set: c1,
             latched: was,
             critical: false,
@@ -698,7 +603,7 @@ fn energy_marginal(set: Timer, clear: Timer, now: u32, margin: f32, cfg: Config)
 {
     let bad = (0.0 <= margin) & (margin < cfg.energy_marginal_wh);
     let good = cfg.energy_marginal_clear_wh < margin;
-    hold_pair(
+    timers::hold_pair(
         set,
         clear,
         now,
@@ -729,7 +634,7 @@ fn energy_held(s: TriggerState, now: u32, margin: OptionF32, cfg: Config) -> Ene
             }
         }
         OptionF32::None => EnergyHeld {
-            marginal: rested(m1, m2),
+            marginal: timers::rested(m1, m2),
             infeas_set: i1,
             latched: was,
             infeasible: false,
@@ -738,6 +643,18 @@ fn energy_held(s: TriggerState, now: u32, margin: OptionF32, cfg: Config) -> Ene
 }
 
 // ---- the whole
+
+// The requests that a kind 11 configuration keeps once they are raised, in the order of kind 12's bytes.
+pub struct Raised {
+    pub gps_degraded: bool,
+    pub gps_lost: bool,
+    pub ekf_unhealthy: bool,
+    pub fence_breach: bool,
+    pub altitude_min: bool,
+    pub battery_warn: bool,
+    pub battery_low: bool,
+    pub energy_rtl_marginal: bool,
+}
 
 pub struct TriggerState {
     pub battery_critical_latched: bool,
@@ -769,6 +686,8 @@ pub struct TriggerState {
     pub invalid_active: bool,
     pub rc_lost_set: Timer,
     pub gcs_stage: u8,
+    // What is raised, where the configuration keeps it; none under kind 1. The Rust has no such field.
+    pub raised: Raised,
 }
 
 // What each family made of a step.
@@ -793,7 +712,7 @@ pub struct Updated {
 fn ekf_held(set: Timer, clear: Timer, now: u32, healthy: bool, cfg: Config) -> PairHeld
     ensures { λ r. ⌜ r ≡ ekf wrapping set clear now healthy cfg ⌝ }
 {
-    hold_pair(
+    timers::hold_pair(
         set,
         clear,
         now,
@@ -859,6 +778,61 @@ fn all_families(
     }
 }
 
+impl Raised {
+    pub fn none() -> Self
+        ensures { λ r. ⌜ r ≡ noneRaised ⌝ }
+    {
+        Self {
+            gps_degraded: false,
+            gps_lost: false,
+            ekf_unhealthy: false,
+            fence_breach: false,
+            altitude_min: false,
+            battery_warn: false,
+            battery_low: false,
+            energy_rtl_marginal: false,
+        }
+    }
+}
+
+// What is raised at a step, each by its pair of timers.
+fn raised_of(keeps: bool, before: Raised, f: Families) -> Raised
+    ensures { λ r. ⌜ r ≡ raisedOf keeps before f ⌝ }
+{
+    let gps_degraded = f.gps.degraded;
+    let gps_lost = f.gps.lost;
+    let ekf = f.ekf;
+    let breach = f.fence.breach;
+    let alt_min = f.fence.alt_min;
+    let warn = f.battery.warn;
+    let low = f.battery.low;
+    let marginal = f.energy.marginal;
+    Raised {
+        gps_degraded: timers::raised_by(keeps, before.gps_degraded, gps_degraded),
+        gps_lost: timers::raised_by(keeps, before.gps_lost, gps_lost),
+        ekf_unhealthy: timers::raised_by(keeps, before.ekf_unhealthy, ekf),
+        fence_breach: timers::raised_by(keeps, before.fence_breach, breach),
+        altitude_min: timers::raised_by(keeps, before.altitude_min, alt_min),
+        battery_warn: timers::raised_by(keeps, before.battery_warn, warn),
+        battery_low: timers::raised_by(keeps, before.battery_low, low),
+        energy_rtl_marginal: timers::raised_by(keeps, before.energy_rtl_marginal, marginal),
+    }
+}
+
+// What of it the next step is told.
+fn kept_raised(keeps: bool, on: Raised) -> Raised
+    ensures { λ r. ⌜ r ≡ keptRaised keeps on ⌝ }
+{
+    if keeps { on } else { Raised::none() }
+}
+
+// Where raised requests are kept, RcLost waits for its hold.
+fn rc_lost(keeps: bool, rc: RcLink) -> bool
+    ensures { λ r. ⌜ r ≡ rcLost keeps rc ⌝ }
+{
+    if keeps { rc.met } else { rc.lost }
+}
+
 fn set_if(active: ActiveSet, on: bool, reason: Reason, action: Action) -> ActiveSet
     ensures { λ r. ⌜ r ≡ setIf active on reason action ⌝ }
 {
@@ -879,36 +853,41 @@ fn set_option(active: ActiveSet, reason: Reason, action: OptionAction) -> Active
 }
 
 // Requests are filed in the Rust's order, in three parts.
-fn link_requests(f: Families) -> ActiveSet
-    ensures { λ r. ⌜ r ≡ linkRequests f ⌝ }
+fn link_requests(keeps: bool, on: Raised, f: Families) -> ActiveSet
+    ensures { λ r. ⌜ r ≡ linkRequests keeps on f ⌝ }
 {
     let gcs = f.gcs;
+    let rc = f.rc;
     let link = gcs.request;
     let a0 = ActiveSet::new();
     let a1 = set_if(a0, f.invalid.active, Reason::InvalidInput, Action::Warn);
     let a2 = set_option(a1, Reason::GcsLinkLost, link);
-    let a3 = set_if(a2, f.rc.lost, Reason::RcLost, Action::ReturnToLaunch);
-    let a4 = set_if(a3, f.gps.degraded.on, Reason::GpsDegraded, Action::Warn);
-    let a5 = set_if(a4, f.gps.lost.on, Reason::GpsLost, Action::Land);
-    set_if(a5, f.ekf.on, Reason::EkfUnhealthy, Action::Land)
+    let lost = rc_lost(keeps, rc);
+    let a3 = set_if(a2, lost, Reason::RcLost, Action::ReturnToLaunch);
+    let a4 = set_if(a3, on.gps_degraded, Reason::GpsDegraded, Action::Warn);
+    let a5 = set_if(a4, on.gps_lost, Reason::GpsLost, Action::Land);
+    set_if(a5, on.ekf_unhealthy, Reason::EkfUnhealthy, Action::Land)
 }
 
-fn fence_requests(a: ActiveSet, f: FenceHeld) -> ActiveSet
-    ensures { λ r. ⌜ r ≡ fenceRequests a f ⌝ }
+// AltitudeMax is not among those that are kept.
+fn fence_requests(a: ActiveSet, on: Raised, f: FenceHeld) -> ActiveSet
+    ensures { λ r. ⌜ r ≡ fenceRequests a on f ⌝ }
 {
+    let alt_max = f.alt_max;
+    let high = timers::raised_by(false, false, alt_max);
     let a1 = set_if(a, f.approach, Reason::FenceApproach, Action::Warn);
-    let a2 = set_if(a1, f.breach.on, Reason::FenceBreach, Action::ReturnToLaunch);
+    let a2 = set_if(a1, on.fence_breach, Reason::FenceBreach, Action::ReturnToLaunch);
     let a3 = set_if(
         a2,
-        f.alt_max.on,
+        high,
         Reason::AltitudeMax,
         Action::ReturnToLaunch,
     );
-    set_if(a3, f.alt_min.on, Reason::AltitudeMin, Action::Warn)
+    set_if(a3, on.altitude_min, Reason::AltitudeMin, Action::Warn)
 }
 
-fn battery_requests(a: ActiveSet, f: Families) -> ActiveSet
-    ensures { λ r. ⌜ r ≡ batteryRequests a f ⌝ }
+fn battery_requests(a: ActiveSet, on: Raised, f: Families) -> ActiveSet
+    ensures { λ r. ⌜ r ≡ batteryRequests a on f ⌝ }
 {
     let a1 = set_if(
         a,
@@ -916,10 +895,10 @@ fn battery_requests(a: ActiveSet, f: Families) -> ActiveSet
         Reason::StaleBattery,
         Action::ReturnToLaunch,
     );
-    let a2 = set_if(a1, f.battery.warn.on, Reason::BatteryWarn, Action::Warn);
+    let a2 = set_if(a1, on.battery_warn, Reason::BatteryWarn, Action::Warn);
     let a3 = set_if(
         a2,
-        f.battery.low.on,
+        on.battery_low,
         Reason::BatteryLow,
         Action::ReturnToLaunch,
     );
@@ -931,7 +910,7 @@ fn battery_requests(a: ActiveSet, f: Families) -> ActiveSet
     );
     let a5 = set_if(
         a4,
-        f.energy.marginal.on,
+        on.energy_rtl_marginal,
         Reason::EnergyRtlMarginal,
         Action::ReturnToLaunch,
     );
@@ -943,17 +922,17 @@ fn battery_requests(a: ActiveSet, f: Families) -> ActiveSet
     )
 }
 
-fn requests(f: Families) -> ActiveSet
-    ensures { λ r. ⌜ r ≡ requests f ⌝ }
+fn requests(keeps: bool, on: Raised, f: Families) -> ActiveSet
+    ensures { λ r. ⌜ r ≡ requests keeps on f ⌝ }
 {
     let fence = f.fence;
-    let a1 = link_requests(f);
-    let a2 = fence_requests(a1, fence);
-    battery_requests(a2, f)
+    let a1 = link_requests(keeps, on, f);
+    let a2 = fence_requests(a1, on, fence);
+    battery_requests(a2, on, f)
 }
 
-fn next_triggers(f: Families) -> TriggerState
-    ensures { λ r. ⌜ r ≡ nextTriggers f ⌝ }
+fn next_triggers(kept: Raised, f: Families) -> TriggerState
+    ensures { λ r. ⌜ r ≡ nextTriggers kept f ⌝ }
 {
     let gcs_clear_timer = f.gcs.clear_timer;
     let rc_clear_timer = f.rc.clear;
@@ -1010,6 +989,7 @@ fn next_triggers(f: Families) -> TriggerState
         invalid_active: f.invalid.active,
         rc_lost_set: rc_lost_set,
         gcs_stage: f.gcs.stage,
+        raised: kept,
     }
 }
 
@@ -1050,6 +1030,7 @@ impl TriggerState {
             invalid_active: false,
             rc_lost_set: t,
             gcs_stage: 0,
+            raised: Raised::none(),
         }
     }
 
@@ -1081,10 +1062,13 @@ impl TriggerState {
                 active: a.set(Reason::ClockFault, Action::Warn),
             }
         } else {
+            let before = self.raised;
+            let keeps = cfg.keeps_raised;
             let f = all_families(self, t, cfg, min_alt_m, max_alt_m, place, margin, invalid);
+            let on = raised_of(keeps, before, f);
             Updated {
-                triggers: next_triggers(f),
-                active: requests(f),
+                triggers: next_triggers(kept_raised(keeps, on), f),
+                active: requests(keeps, on, f),
             }
         }
     }

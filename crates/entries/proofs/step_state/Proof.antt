@@ -18,7 +18,7 @@ enum-known-s : tie.Need-enum-known-s
 enum-known-s c = search needs
 
 step-telemetry-requires : tie.Need-step-telemetry-requires
-step-telemetry-requires c κs = state-bytes _ _ (sym (c .before .before .before .before .before .read-state .ensures) ∙ c .before .before .before .s .given .1)
+step-telemetry-requires c κs = state-bytes _ _ _ (sym (c .before .before .before .before .before .read-state .ensures) ∙ c .before .before .before .s .given .1)
 
 same-length : tie.Need-same-length
 same-length c = search needs

@@ -37,7 +37,7 @@ returns-2 c =
     rw (← c .before .before .before .before .before .before .before .before .before .before .step-flight .ensures, le-ltb (length o) _ roomy) (
       refl,
       (
-        c .before .before .before .before .before .before .write-state .ensures .1 ∙ state-written _ _ (c .before .before .before .before .before .before .before .before .before .before .before .before .before .before .before .before .pre),
+        c .before .before .before .before .before .before .write-state .ensures .1 ∙ state-written _ _ _ (c .before .before .before .before .before .before .before .before .before .before .before .before .before .before .before .before .pre),
         c .before .before .write-output .ensures,
       ),
     )

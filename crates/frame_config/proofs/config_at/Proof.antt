@@ -131,6 +131,7 @@ returns c =
       «h_rtl» = c60 .f32-at23 .ensures i;
       «reserve_wh» = c61 .f32-at24 .ensures i;
       «v_max» = c .f32-at25 .ensures i;
+      «keeps_raised» = c1 .before .before .args .keeps-raised;
     }
 
 pub config-at-spec : {M : Type 1} → statement M

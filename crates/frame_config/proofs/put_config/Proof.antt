@@ -10,13 +10,13 @@ use Rattle.wire.specs.Cell.{bytesOf}
 use Rattle.wire.specs.Frame.{frameHead}
 use Rattle.wire.proofs.Stores.{Piece, put, after, done, into, ran}
 use Rattle.config.specs.declared.Config.{Config}
-use Rattle.frame_config.specs.ConfigFrame.{configFrame, configCells, freshnessCells, linkCells, fenceCells, batteryCells, energyCells, flightCells}
+use Rattle.frame_config.specs.ConfigFrame.{configKind, configFrame, configCells, freshnessCells, linkCells, fenceCells, batteryCells, energyCells, flightCells}
 use Rattle.frame_config.proofs.put_config.Statement.{statement}
 use Rattle.frame_config.proofs.put_config.Tie as tie
 
-abbrev pieces : Config → List Piece
-pieces c =
-    put 0 (frameHead 1 244) ∷
+abbrev pieces : ℕ → Config → List Piece
+pieces kind c =
+    put 0 (frameHead kind 244) ∷
     put 4 (bytesOf (freshnessCells c)) ∷
     put 30 (bytesOf (linkCells c)) ∷
     put 82 (bytesOf (fenceCells c)) ∷
@@ -25,7 +25,7 @@ pieces c =
     put 206 (bytesOf (flightCells c)) ∷
     []
 
-flat : (l : List ℕ) (c : Config) → after l (pieces c) ≡ sets l 0 (configFrame c)
+flat : (l : List ℕ) (c : Config) → after l (pieces (configKind (c .«keeps_raised»)) c) ≡ sets l 0 (configFrame c)
 unfolding configFrame configCells freshnessCells linkCells fenceCells batteryCells energyCells flightCells frameHead le8 leFlag leBytes le16 le32 leF32
 flat l c = refl
 
@@ -38,8 +38,9 @@ returns c =
     let p3 = p4 .before .before .before .before in
     let p2 = p3 .before .before .before .before in
     let p1 = p2 .before .before .before .before in
-    let a = p1 .before .before .before .args in
-    ran (now (a .s)) (pieces (a .c)) _
+    let k = p1 .before in
+    let a = k .before .before .before .args in
+    ran (now (a .s)) (pieces (k .config-kind .result) (a .c)) _
     (into (p1 .put-head .ensures)
     (into (p2 .put-freshness .ensures)
     (into (p3 .put-link .ensures)
@@ -48,6 +49,7 @@ returns c =
     (into (p6 .put-energy .ensures)
     (into (p7 .put-flight .ensures)
     done)))))))
+    ∙ ap (λ (n : ℕ). after (now (a .s)) (pieces n (a .c))) (k .config-kind .ensures)
     ∙ flat (now (a .s)) (a .c)
 
 same-length : tie.Need-same-length
@@ -57,6 +59,7 @@ pub put-config-spec : {M : Type 1} → statement M
 put-config-spec =
     tie.close
     (tie.spec
+    (λ c κs. tt)
     (λ c κs. tt)
     (λ c κs. tt)
     (λ c κs. tt)

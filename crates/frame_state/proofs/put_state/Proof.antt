@@ -1,6 +1,7 @@
 -- `frame_state::put_state` meets its contract: the calls' contracts, one after the other, are a run of stores. Assumes nothing.
 use Prim.Native.Nat.{ℕ}
 use mathlib.Core.Path.{_≡_, _∙_, ap, refl}
+use mathlib.Core.Bool.{Bool, true, false}
 use mathlib.Core.List.{List, [], _∷_}
 use lib.ListN.{length}
 use lib.Seq.{sets, length-sets}
@@ -15,14 +16,14 @@ use Rattle.options.specs.Position.{leVec3, leOptionPosition}
 use Rattle.options.specs.Enums.{leAction, leReason}
 use Rattle.triggers.specs.declared.TriggerState.{TriggerState}
 use Rattle.supervisor.specs.declared.Supervisor.{Supervisor}
-use Rattle.frame_state.specs.StateFrame.{leTimer, leLinks, leFence, leBattery, leInput, leTriggers, leArbiter, stateFrame}
+use Rattle.frame_state.specs.StateFrame.{stateKind, stateLength, leRaised, leKept, leTimer, leLinks, leFence, leBattery, leInput, leTriggers, leArbiter, stateFrame}
 use borrow.Author.Needs.{needs}
 use Rattle.frame_state.proofs.put_state.Statement.{statement}
 use Rattle.frame_state.proofs.put_state.Tie as tie
 
-abbrev pieces : Supervisor → List Piece
-pieces x =
-    put 0 (frameHead 5 184) ∷
+abbrev pieces : ℕ → ℕ → Bool → Supervisor → List Piece
+pieces kind len keeps x =
+    put 0 (frameHead kind len) ∷
     put 4 (leTriggers (x .triggers)) ∷
     put 133 (leArbiter (x .arbiter)) ∷
     put 140 (leOptionU32 (x .disarm .«hold_since_ms»)) ∷
@@ -32,15 +33,23 @@ pieces x =
     put 180 (le32 (x .«epoch_start»)) ∷
     put 184 (le8 (x .«backwards_streak»)) ∷
     put 185 (leFlag (x .initialized)) ∷
+    put 186 (leKept keeps (x .triggers .raised)) ∷
     []
 
-flat : (l : List ℕ) (x : Supervisor) → after l (pieces x) ≡ sets l 0 (stateFrame x)
-unfolding stateFrame frameHead leTriggers leLinks leFence leBattery leInput leTimer leArbiter leAction leReason leOptionU32 leOptionPosition leVec3 leF32 le8 le16 le32 leBytes leFlag
-flat l x = refl
+flat : (l : List ℕ) (keeps : Bool) (x : Supervisor) → after l (pieces (stateKind keeps) (stateLength keeps) keeps x) ≡ sets l 0 (stateFrame keeps x)
+unfolding stateFrame leRaised frameHead leTriggers leLinks leFence leBattery leInput leTimer leArbiter leAction leReason leOptionU32 leOptionPosition leVec3 leF32 le8 le16 le32 leBytes leFlag
+flat l true x = refl
+flat l false x = refl
 
 wide : (t : TriggerState) → length (leTriggers t) ≡ 129
 unfolding leTriggers leLinks leFence leBattery leInput leTimer leOptionU32 le8 le32 leBytes leFlag
 wide t = refl
+
+state-kind-requires : tie.Need-state-kind-requires
+state-kind-requires c κs = search needs
+
+state-length-requires : tie.Need-state-length-requires
+state-length-requires c κs = search needs
 
 put-head-requires : tie.Need-put-head-requires
 put-head-requires c κs = search needs
@@ -75,9 +84,13 @@ put-u8-requires-2 c κs = search needs
 put-flag-requires : tie.Need-put-flag-requires
 put-flag-requires c κs = search needs
 
+put-kept-requires : tie.Need-put-kept-requires
+put-kept-requires c κs = search needs
+
 returns : tie.Need-returns
 returns c =
-    let p10 = c .before .before in
+    let p11 = c .before .before in
+    let p10 = p11 .before .before .before .before in
     let p9 = p10 .before .before .before .before in
     let p8 = p9 .before .before .before .before in
     let p7 = p8 .before .before .before .before in
@@ -88,8 +101,10 @@ returns c =
     let p2 = p3 .before .before .before .before in
     let z = p2 .before .before .before .before in
     let p1 = z .before .before .before .before in
-    let a = p1 .before .before .before .before .before .before .before .args in
-    ran (now (a .s)) (pieces (a .x)) _
+    let n = p1 .before .before in
+    let k = n .before in
+    let a = k .before .before .before .before .before .before .before .args in
+    ran (now (a .s)) (pieces (k .state-kind .result) (n .state-length .result) (a .keeps) (a .x)) _
     (into (p1 .put-head .ensures)
     (into (over-present leTriggers 4 129 _ wide (z .put-zeros .ensures) (p2 .put-triggers .ensures) refl)
     (into (p3 .put-arbiter .ensures)
@@ -100,8 +115,10 @@ returns c =
     (into (p8 .put-u32 .ensures)
     (into (p9 .put-u82 .ensures)
     (into (p10 .put-flag .ensures)
-    done))))))))))
-    ∙ flat (now (a .s)) (a .x)
+    (into (p11 .put-kept .ensures)
+    done)))))))))))
+    ∙ (λ i. after (now (a .s)) (pieces (k .state-kind .ensures i) (n .state-length .ensures i) (a .keeps) (a .x)))
+    ∙ flat (now (a .s)) (a .keeps) (a .x)
 
 same-length : tie.Need-same-length
 same-length c = ap length (returns c) ∙ simp length-sets
@@ -110,6 +127,8 @@ pub put-state-spec : {M : Type 1} → statement M
 put-state-spec =
     tie.close
     (tie.spec
+    state-kind-requires
+    state-length-requires
     put-head-requires
     put-zeros-requires
     put-triggers-requires
@@ -121,5 +140,6 @@ put-state-spec =
     put-u32-requires
     put-u8-requires-2
     put-flag-requires
+    put-kept-requires
     same-length
     returns)

@@ -1,14 +1,30 @@
 -- `frame_state::read_state` meets its contract. Assumes nothing.
-use mathlib.Core.Path.{_∙_, sym, ap}
+use Prim.Native.Nat.{ℕ}
+use mathlib.Core.Bool.{Bool, _&&_}
+use mathlib.Core.List.{List}
+use mathlib.Core.Path.{_≡_, _∙_, sym, ap}
+use native.Mathlib.Omega.{arith}
+use lib.Dec.{eqb}
 use borrow.Author.Tests.{eqb-true}
 use denote.Ref.{now}
 use Rattle.wire.specs.Frame.{frameFault}
 use Rattle.wire.proofs.Head.{head-says}
 use Rattle.frame_state.specs.declared.StateRead.the-variants.{Frame, Refused}
-use Rattle.frame_state.specs.StateFrame.{readState}
+use Rattle.frame_state.specs.StateFrame.{stateKind, stateLength, stateAt, readState}
+use Rattle.frame_state.proofs.Size.{least}
 use borrow.Author.Needs.{needs}
 use Rattle.frame_state.proofs.read_state.Statement.{statement}
 use Rattle.frame_state.proofs.read_state.Tie as tie
+
+-- the fault of the head that is due
+fault : (s : List ℕ) (keeps : Bool) (k n : ℕ) → k ≡ stateKind keeps → n ≡ stateLength keeps → frameFault k n s ≡ frameFault (stateKind keeps) (stateLength keeps) s
+fault s keeps k n e g = λ i. frameFault (e i) (g i) s
+
+state-kind-requires : tie.Need-state-kind-requires
+state-kind-requires c κs = search needs
+
+state-length-requires : tie.Need-state-length-requires
+state-length-requires c κs = search needs
 
 frame-fits-requires : tie.Need-frame-fits-requires
 frame-fits-requires c κs = search needs
@@ -18,8 +34,21 @@ option-position-at-requires c κs = search needs
 
 state-valid-requires : tie.Need-state-valid-requires
 state-valid-requires c κs =
-    let s = now (c .before .before .before .before .args .s) in
-    (head-says 5 184 s (eqb-true (frameFault 5 184 s) 0 (sym (c .before .before .frame-fits .ensures) ∙ c .before .if1 .taken)) .1 .1, c .option-position-at .ensures)
+    let f = c .before .before in
+    let n = f .before in
+    let k = n .before in
+    let a = k .before .before .args in
+    let s = now (a .s) in
+    let e = sym (ap (λ (m : ℕ). eqb m 0) (fault s (a .keeps) _ _ (k .state-kind .ensures) (n .state-length .ensures))) ∙ sym (f .frame-fits .ensures) ∙ c .before .if1 .taken in
+    let h = head-says (stateKind (a .keeps)) (stateLength (a .keeps)) s (eqb-true _ 0 e) .1 .1 in
+    let l = least (a .keeps) in
+    (omega (arith, h, l), c .option-position-at .ensures)
+
+raised-valid-requires : tie.Need-raised-valid-requires
+raised-valid-requires c κs = search needs
+
+raised-read-requires : tie.Need-raised-read-requires
+raised-read-requires c κs = search needs
 
 state-at-requires : tie.Need-state-at-requires
 state-at-requires c κs = search needs
@@ -30,23 +59,51 @@ frame-fault-requires c κs = search needs
 returns : tie.Need-returns
 unfolding readState
 returns c =
-    simp (sym (c .before .before .before .before .before .frame-fits .ensures) ∙ c .before .before .before .before .if1 .taken, sym (c .before .before .state-valid .ensures) ∙ c .before .if2 .taken) (ap Frame (c .state-at .ensures))
+    let v = c .before .before .before .before in
+    let f = v .before .before .before in
+    let n = f .before in
+    let k = n .before in
+    let a = k .before .before .args in
+    let s = now (a .s) in
+    let e = sym (ap (λ (m : ℕ). eqb m 0) (fault s (a .keeps) _ _ (k .state-kind .ensures) (n .state-length .ensures))) ∙ sym (f .frame-fits .ensures) ∙ v .before .before .if1 .taken in
+    let b = (λ i. sym (v .state-valid .ensures) i && sym (c .before .before .before .raised-valid .ensures) i) ∙ c .before .before .if2 .taken in
+    simp (e, b) (ap Frame (c .state-at .ensures ∙ ap (stateAt s) (c .before .raised-read .ensures)))
 
 returns-2 : tie.Need-returns-2
 unfolding readState
-returns-2 c = simp (sym (c .before .before .before .before .frame-fits .ensures) ∙ c .before .before .before .if1 .taken, sym (c .before .state-valid .ensures) ∙ c .if2 .left)
+returns-2 c =
+    let v = c .before .before in
+    let f = v .before .before .before in
+    let n = f .before in
+    let k = n .before in
+    let a = k .before .before .args in
+    let s = now (a .s) in
+    let e = sym (ap (λ (m : ℕ). eqb m 0) (fault s (a .keeps) _ _ (k .state-kind .ensures) (n .state-length .ensures))) ∙ sym (f .frame-fits .ensures) ∙ v .before .before .if1 .taken in
+    let b = (λ i. sym (v .state-valid .ensures) i && sym (c .before .raised-valid .ensures) i) ∙ c .if2 .left in
+    simp (e, b)
 
 returns-3 : tie.Need-returns-3
 unfolding readState
-returns-3 c = simp (sym (c .before .before .frame-fits .ensures) ∙ c .before .if1 .left) (ap Refused (c .frame-fault .ensures))
+returns-3 c =
+    let f = c .before .before in
+    let n = f .before in
+    let k = n .before in
+    let a = k .before .before .args in
+    let s = now (a .s) in
+    let g = fault s (a .keeps) _ _ (k .state-kind .ensures) (n .state-length .ensures) in
+    simp (sym (ap (λ (m : ℕ). eqb m 0) g) ∙ sym (f .frame-fits .ensures) ∙ c .before .if1 .left) (ap Refused (c .frame-fault .ensures ∙ g))
 
 pub read-state-spec : {M : Type 1} → statement M
 read-state-spec =
     tie.close
     (tie.spec
+    state-kind-requires
+    state-length-requires
     frame-fits-requires
     option-position-at-requires
     state-valid-requires
+    raised-valid-requires
+    raised-read-requires
     state-at-requires
     frame-fault-requires
     returns

@@ -66,6 +66,7 @@ returns c =
       «invalid_active» = c27 .flag-at3 .ensures i;
       «rc_lost_set» = c28 .timer-at25 .ensures i;
       «gcs_stage» = c .u8-at .ensures i;
+      raised = c1 .before .before .args .raised;
     }
 
 pub triggers-at-spec : {M : Type 1} → statement M

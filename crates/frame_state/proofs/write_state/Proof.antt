@@ -11,22 +11,23 @@ use Rattle.frame_state.proofs.write_state.Tie as tie
 
 returns : tie.Need-returns
 returns c =
-    let a = c .before .before .args in
-    no-room (stateFrame (a .x)) (now (a .s)) 186 (size (a .x)) (omega arith)
+    let a = c .before .before .before .args in
+    no-room (stateFrame (a .keeps) (a .x)) (now (a .s)) _ (size (a .keeps) (a .x)) (let e = c .before .state-size .ensures in omega arith)
 
 same-length : tie.Need-same-length
 same-length c = search needs
 
 returns-2 : tie.Need-returns-2
 returns-2 c =
-    let a = c .before .before .before .before .before .before .args in
-    let r = room (stateFrame (a .x)) (now (a .s)) 186 (size (a .x)) (omega arith) in
+    let a = c .before .before .before .before .before .before .before .args in
+    let r = room (stateFrame (a .keeps) (a .x)) (now (a .s)) _ (size (a .keeps) (a .x)) (let e = c .before .before .before .before .before .state-size .ensures in omega arith) in
     (r .0, c .before .before .put-state .ensures ∙ r .1)
 
 pub write-state-spec : {M : Type 1} → statement M
 write-state-spec =
     tie.close
     (tie.spec
+    (λ c κs. tt)
     returns
     (λ c κs. tt)
     same-length

@@ -4,6 +4,9 @@ use borrow.Author.Needs.{needs}
 use Rattle.triggers.proofs.fence_requests.Statement.{statement}
 use Rattle.triggers.proofs.fence_requests.Tie as tie
 
+raised-by-requires : tie.Need-raised-by-requires
+raised-by-requires c κs = search needs
+
 set-if-requires : tie.Need-set-if-requires
 set-if-requires c κs = search needs
 
@@ -18,9 +21,9 @@ set-if-requires-4 c κs = search needs
 
 returns : tie.Need-returns
 unfolding fenceRequests
-returns c = rw (← c .before .before .before .set-if .ensures, ← c .before .before .set-if2 .ensures, ← c .before .set-if3 .ensures, ← c .set-if4 .ensures)
+returns c = rw (← c .before .before .before .before .raised-by .ensures, ← c .before .before .before .set-if .ensures, ← c .before .before .set-if2 .ensures, ← c .before .set-if3 .ensures, ← c .set-if4 .ensures)
 
 pub fence-requests-spec : {M : Type 1} → statement M
 fence-requests-spec =
     tie.close
-    (tie.spec set-if-requires set-if-requires-2 set-if-requires-3 set-if-requires-4 returns)
+    (tie.spec raised-by-requires set-if-requires set-if-requires-2 set-if-requires-3 set-if-requires-4 returns)

@@ -1,12 +1,15 @@
 -- `triggers::TriggerState::default` meets its contract. Assumes nothing.
-use mathlib.Core.Path.{refl}
 use Rattle.triggers.specs.Update.{freshTriggers}
+use borrow.Author.Needs.{needs}
 use Rattle.triggers.proofs.TriggerState.default.Statement.{statement}
 use Rattle.triggers.proofs.TriggerState.default.Tie as tie
 
+none-requires : tie.Need-none-requires
+none-requires c κs = search needs
+
 returns : tie.Need-returns
 unfolding freshTriggers
-returns c = refl
+returns c = rw (← c .none .ensures)
 
 pub default-spec : {M : Type 1} → statement M
-default-spec = tie.close (tie.spec returns)
+default-spec = tie.close (tie.spec none-requires returns)

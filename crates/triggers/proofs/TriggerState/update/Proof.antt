@@ -13,6 +13,12 @@ set-requires c κs = search needs
 all-families-requires : tie.Need-all-families-requires
 all-families-requires c κs = search needs
 
+raised-of-requires : tie.Need-raised-of-requires
+raised-of-requires c κs = search needs
+
+kept-raised-requires : tie.Need-kept-raised-requires
+kept-raised-requires c κs = search needs
+
 next-triggers-requires : tie.Need-next-triggers-requires
 next-triggers-requires c κs = search needs
 
@@ -25,7 +31,7 @@ returns c = rw (c .before .before .if1 .taken, ← c .before .new .ensures, ← 
 
 returns-2 : tie.Need-returns-2
 unfolding update
-returns-2 c = rw (c .before .before .before .if1 .left, ← c .before .before .all-families .ensures, ← c .before .next-triggers .ensures, ← c .requests .ensures)
+returns-2 c = rw (c .before .before .before .before .before .before .if1 .left, ← c .before .before .before .before .all-families .ensures, ← c .before .before .before .raised-of .ensures, ← c .before .before .kept-raised .ensures, ← c .before .next-triggers .ensures, ← c .requests .ensures)
 
 pub update-spec : {M : Type 1} → statement M
 update-spec =
@@ -34,6 +40,8 @@ update-spec =
     new-requires
     set-requires
     all-families-requires
+    raised-of-requires
+    kept-raised-requires
     next-triggers-requires
     requests-requires
     returns

@@ -1,0 +1,2 @@
+-- The definitions that the contracts of `clock` cite.
+pub mod Clock

@@ -1,0 +1,2 @@
+-- The definitions that the contracts of `timers` cite.
+pub mod Timer
