@@ -86,7 +86,6 @@ all-below = record { blind-6100 = refl; flight-6060 = refl; flight-6050 = refl; 
 
 -- ---- the premises
 
-
 -- a call without bytes is declined
 declines : (state : List ℕ) → stepAny false [] [] state [] [] [] .number ≡ 1
 unfolding stepAny readFlight refusedFlight readConfig frameFault

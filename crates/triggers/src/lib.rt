@@ -876,13 +876,13 @@ fn fence_requests(a: ActiveSet, on: Raised, f: FenceHeld) -> ActiveSet
     let alt_max = f.alt_max;
     let high = timers::raised_by(false, false, alt_max);
     let a1 = set_if(a, f.approach, Reason::FenceApproach, Action::Warn);
-    let a2 = set_if(a1, on.fence_breach, Reason::FenceBreach, Action::ReturnToLaunch);
-    let a3 = set_if(
-        a2,
-        high,
-        Reason::AltitudeMax,
+    let a2 = set_if(
+        a1,
+        on.fence_breach,
+        Reason::FenceBreach,
         Action::ReturnToLaunch,
     );
+    let a3 = set_if(a2, high, Reason::AltitudeMax, Action::ReturnToLaunch);
     set_if(a3, on.altitude_min, Reason::AltitudeMin, Action::Warn)
 }
 

@@ -51,9 +51,9 @@ returns-2 c =
     let r = room (stateFrame (a .keeps) freshSupervisor) l _ (size (a .keeps) freshSupervisor) (let e = z .state-size .ensures in omega arith) in (
       r .0,
       ran l (pieces (k .state-kind .result) (n .state-length .result) (z .state-size .result)) _ (into (p1 .put-head .ensures) (into (p2 .put-zeros .ensures) done))
-      ∙ (λ i. after l (pieces (k .state-kind .ensures i) (n .state-length .ensures i) (z .state-size .ensures i)))
-      ∙ flat l (a .keeps)
-      ∙ r .1,
+          ∙ (λ i. after l (pieces (k .state-kind .ensures i) (n .state-length .ensures i) (z .state-size .ensures i)))
+          ∙ flat l (a .keeps)
+          ∙ r .1,
     )
 
 pub write-fresh-spec : {M : Type 1} → statement M
