@@ -5,182 +5,88 @@
 
 #include "failsafe.h"
 
-/* Bytes written one after the other. */
-struct writer {
-    uint8_t *bytes;
-    size_t at;
-};
-
-static void put_u8(struct writer *w, uint8_t n) { w->bytes[w->at++] = n; }
-
-static void put_u16(struct writer *w, uint16_t n)
+static void put_u16(uint8_t *at, uint16_t n)
 {
-    put_u8(w, (uint8_t)(n & 0xff));
-    put_u8(w, (uint8_t)(n >> 8));
+    at[0] = (uint8_t)(n & 0xff);
+    at[1] = (uint8_t)(n >> 8);
 }
 
-static void put_u32(struct writer *w, uint32_t n)
+static void put_u32(uint8_t *at, uint32_t n)
 {
-    put_u16(w, (uint16_t)(n & 0xffff));
-    put_u16(w, (uint16_t)(n >> 16));
+    put_u16(at, (uint16_t)(n & 0xffff));
+    put_u16(at + 2, (uint16_t)(n >> 16));
 }
 
-static void put_f32(struct writer *w, float x)
+static void put_f32(uint8_t *at, float x)
 {
     uint32_t n;
     memcpy(&n, &x, sizeof n);
-    put_u32(w, n);
+    put_u32(at, n);
 }
 
-static void put_head(struct writer *w, uint16_t kind, size_t frame_bytes)
+/* A frame of zeros, but for its head. */
+static void put_head(uint8_t *frame, uint16_t kind, size_t frame_bytes)
 {
-    put_u16(w, (uint16_t)(frame_bytes - 2));
-    put_u16(w, kind);
-}
-
-/* The default settings, in declared order. */
-static void config_frame(uint8_t *bytes)
-{
-    struct writer w = {bytes, 0};
-    put_head(&w, 1, FAILSAFE_CONFIG_BYTES);
-    put_u8(&w, 4); /* cell_count */
-    put_f32(&w, 40.0f); /* usable_capacity_wh */
-    put_u8(&w, 1); /* rc_required */
-    put_u32(&w, 500u); /* pos_fresh_ms */
-    put_u32(&w, 1000u); /* gps_fresh_ms */
-    put_u32(&w, 1000u); /* status_fresh_ms */
-    put_u32(&w, 2000u); /* battery_fresh_ms */
-    put_u32(&w, 5000u); /* recovery_hold_ms */
-    put_u32(&w, 3000u); /* gcs_warn_ms */
-    put_u32(&w, 5000u); /* gcs_hold_ms */
-    put_u32(&w, 15000u); /* gcs_rtl_ms */
-    put_u32(&w, 1500u); /* gcs_clear_ms */
-    put_u32(&w, 3000u); /* gcs_clear_hold_ms */
-    put_u32(&w, 1000u); /* rc_lost_set_ms */
-    put_u32(&w, 3000u); /* rc_lost_clear_ms */
-    put_u32(&w, 2000u); /* gps_degraded_set_ms */
-    put_u32(&w, 5000u); /* gps_degraded_clear_ms */
-    put_u32(&w, 1500u); /* gps_lost_set_ms */
-    put_u32(&w, 5000u); /* gps_lost_clear_ms */
-    put_u32(&w, 1000u); /* ekf_unhealthy_set_ms */
-    put_u32(&w, 5000u); /* ekf_unhealthy_clear_ms */
-    put_f32(&w, 10.0f); /* fence_approach_m */
-    put_f32(&w, 15.0f); /* fence_approach_clear_m */
-    put_u32(&w, 500u); /* fence_breach_set_ms */
-    put_f32(&w, 5.0f); /* fence_breach_clear_m */
-    put_u32(&w, 5000u); /* fence_breach_clear_ms */
-    put_f32(&w, 5.0f); /* alt_max_clear_m */
-    put_u32(&w, 500u); /* alt_max_set_ms */
-    put_u32(&w, 3000u); /* alt_max_clear_hold_ms */
-    put_f32(&w, 20.0f); /* alt_min_home_radius_m */
-    put_u32(&w, 1000u); /* alt_min_set_ms */
-    put_f32(&w, 2.0f); /* alt_min_clear_m */
-    put_u32(&w, 1000u); /* alt_min_clear_ms */
-    put_u32(&w, 3000u); /* stale_battery_clear_ms */
-    put_f32(&w, 30.0f); /* battery_warn_pct */
-    put_f32(&w, 33.0f); /* battery_warn_clear_pct */
-    put_u32(&w, 2000u); /* battery_warn_set_ms */
-    put_u32(&w, 5000u); /* battery_warn_clear_ms */
-    put_f32(&w, 20.0f); /* battery_low_pct */
-    put_f32(&w, 23.0f); /* battery_low_clear_pct */
-    put_u32(&w, 2000u); /* battery_low_set_ms */
-    put_u32(&w, 5000u); /* battery_low_clear_ms */
-    put_f32(&w, 10.0f); /* battery_critical_pct */
-    put_f32(&w, 3.3f); /* battery_critical_v_per_cell */
-    put_u32(&w, 3000u); /* battery_critical_set_ms */
-    put_f32(&w, 5.0f); /* energy_marginal_wh */
-    put_f32(&w, 7.0f); /* energy_marginal_clear_wh */
-    put_u32(&w, 2000u); /* energy_marginal_set_ms */
-    put_u32(&w, 5000u); /* energy_marginal_clear_ms */
-    put_u32(&w, 2000u); /* energy_infeasible_set_ms */
-    put_u32(&w, 3000u); /* invalid_input_clear_ms */
-    put_u32(&w, 2000u); /* disarm_hold_ms */
-    put_f32(&w, 10.0f); /* v_cruise */
-    put_f32(&w, 350.0f); /* p_cruise */
-    put_f32(&w, 1.25f); /* k_wind */
-    put_f32(&w, 2.0f); /* v_climb */
-    put_f32(&w, 400.0f); /* p_climb */
-    put_f32(&w, 1.5f); /* v_desc */
-    put_f32(&w, 300.0f); /* p_desc */
-    put_f32(&w, 30.0f); /* h_rtl */
-    put_f32(&w, 8.0f); /* reserve_wh */
-    put_f32(&w, 25.0f); /* v_max */
-}
-
-/* A square of 1,000 m about home, from 5 m to 120 m. */
-static void fence_frame(uint8_t *bytes)
-{
-    static const float corners[4][2] = {{-500, -500}, {-500, 500}, {500, 500}, {500, -500}};
-    struct writer w = {bytes, 0};
-    put_head(&w, 2, FAILSAFE_FENCE_BYTES(4));
-    put_u8(&w, 4);
-    put_f32(&w, 5);
-    put_f32(&w, 120);
-    for (int i = 0; i < 4; i++) {
-        put_f32(&w, corners[i][0]);
-        put_f32(&w, corners[i][1]);
-    }
+    memset(frame, 0, frame_bytes);
+    put_u16(frame, (uint16_t)(frame_bytes - 2));
+    put_u16(frame + 2, kind);
 }
 
 /* A crane's yard, 60 m by 60 m, from 60 m north on. */
-static void area_frame(uint8_t *bytes, uint8_t number)
+static void area_frame(uint8_t *frame, uint8_t number)
 {
     static const float corners[4][2] = {{60, -30}, {60, 30}, {120, 30}, {120, -30}};
-    struct writer w = {bytes, 0};
-    put_head(&w, 7, FAILSAFE_AREA_BYTES(4));
-    put_u8(&w, number);
-    put_u8(&w, 4);
+    put_head(frame, FAILSAFE_KIND_AREA, FAILSAFE_AREA_BYTES(4));
+    frame[4] = number;
+    frame[5] = 4;
     for (int i = 0; i < 4; i++) {
-        put_f32(&w, corners[i][0]);
-        put_f32(&w, corners[i][1]);
+        put_f32(frame + 6 + 8 * i, corners[i][0]);
+        put_f32(frame + 10 + 8 * i, corners[i][1]);
     }
 }
 
 /* The bytes of a frame. */
 static size_t frame_bytes(const uint8_t *frame) { return 2u + frame[0] + 256u * frame[1]; }
 
-/* All is well 50 m above a point so many metres north, but for the heartbeat and the armed reading as told. */
-static void telemetry_frame(uint8_t *bytes, uint32_t now, float north, uint32_t heartbeat, int armed)
+/* The flag of a reading that is present, and its stamp behind it. */
+static void put_stamp(uint8_t *at, uint32_t stamp)
 {
-    struct writer w = {bytes, 0};
-    put_head(&w, 3, FAILSAFE_TELEMETRY_BYTES);
-    put_u32(&w, now);
-    put_u8(&w, 1); /* position */
-    put_u32(&w, now);
-    put_f32(&w, north);
-    put_f32(&w, 0);
-    put_f32(&w, -50);
-    for (int i = 0; i < 3; i++)
-        put_f32(&w, 0);
-    put_u8(&w, 1); /* gps: a fix in three dimensions, 12 satellites, hdop 1 */
-    put_u32(&w, now);
-    put_u8(&w, 2);
-    put_u8(&w, 1);
-    put_u8(&w, 12);
-    put_u8(&w, 1);
-    put_f32(&w, 1);
-    put_u8(&w, 1); /* voltage */
-    put_u32(&w, now);
-    put_f32(&w, 16);
-    put_u8(&w, 1); /* percent */
-    put_u32(&w, now);
-    put_f32(&w, 80);
-    put_u8(&w, 1); /* remaining_wh */
-    put_u32(&w, now);
-    put_f32(&w, 32);
-    put_u8(&w, 1); /* gcs_heartbeat_ms */
-    put_u32(&w, heartbeat);
-    put_u8(&w, 1); /* armed */
-    put_u32(&w, now);
-    put_u8(&w, (uint8_t)armed);
-    put_u8(&w, 1); /* landed: in the air */
-    put_u32(&w, now);
-    put_u8(&w, 2);
-    for (int i = 0; i < 2; i++) { /* rc_ok, ekf_ok */
-        put_u8(&w, 1);
-        put_u32(&w, now);
-        put_u8(&w, 1);
-    }
+    at[0] = 1;
+    put_u32(at + 1, stamp);
+}
+
+/* A GPS reading: a fix in three dimensions, 12 satellites, hdop 1. */
+static void put_gps(uint8_t *frame, uint32_t now)
+{
+    put_stamp(frame + FAILSAFE_TELEMETRY_GPS, now);
+    frame[FAILSAFE_TELEMETRY_GPS_FIX] = FAILSAFE_FIX_FIX3D;
+    frame[FAILSAFE_TELEMETRY_GPS_SATS] = 1;
+    frame[FAILSAFE_TELEMETRY_GPS_SATS_VALUE] = 12;
+    frame[FAILSAFE_TELEMETRY_GPS_HDOP] = 1;
+    put_f32(frame + FAILSAFE_TELEMETRY_GPS_HDOP_VALUE, 1);
+}
+
+/* All is well 50 m above a point so many metres north, but for the heartbeat and the armed reading as told. */
+static void telemetry_frame(uint8_t *frame, uint32_t now, float north, uint32_t heartbeat, int armed)
+{
+    static const size_t stamped[] = {
+        FAILSAFE_TELEMETRY_POSITION, FAILSAFE_TELEMETRY_VOLTAGE_V, FAILSAFE_TELEMETRY_PERCENT, FAILSAFE_TELEMETRY_REMAINING_WH,
+        FAILSAFE_TELEMETRY_ARMED, FAILSAFE_TELEMETRY_LANDED, FAILSAFE_TELEMETRY_RC_OK, FAILSAFE_TELEMETRY_EKF_OK};
+    put_head(frame, FAILSAFE_KIND_TELEMETRY, FAILSAFE_TELEMETRY_BYTES);
+    put_u32(frame + FAILSAFE_TELEMETRY_NOW_MS, now);
+    for (size_t i = 0; i < sizeof stamped / sizeof *stamped; i++)
+        put_stamp(frame + stamped[i], now);
+    put_stamp(frame + FAILSAFE_TELEMETRY_GCS_HEARTBEAT_MS, heartbeat);
+    put_gps(frame, now);
+    put_f32(frame + FAILSAFE_TELEMETRY_POSITION_POS_NORTH, north);
+    put_f32(frame + FAILSAFE_TELEMETRY_POSITION_POS_DOWN, -50);
+    put_f32(frame + FAILSAFE_TELEMETRY_VOLTAGE_V_VALUE, 16);
+    put_f32(frame + FAILSAFE_TELEMETRY_PERCENT_VALUE, 80);
+    put_f32(frame + FAILSAFE_TELEMETRY_REMAINING_WH_VALUE, 32);
+    frame[FAILSAFE_TELEMETRY_ARMED_VALUE] = (uint8_t)armed;
+    frame[FAILSAFE_TELEMETRY_LANDED_VALUE] = FAILSAFE_LANDED_IN_AIR;
+    frame[FAILSAFE_TELEMETRY_RC_OK_VALUE] = 1;
+    frame[FAILSAFE_TELEMETRY_EKF_OK_VALUE] = 1;
 }
 
 static const char *const actions[] = {"Nominal", "Warn", "Hold", "ReturnToLaunch", "Land"};
@@ -204,16 +110,17 @@ static uint32_t step_beside(const uint8_t *config, const uint8_t *fence, uint8_t
 
 int main(void)
 {
-    uint8_t config[FAILSAFE_CONFIG_BYTES], fence[FAILSAFE_FENCE_BYTES(4)];
+    static const uint8_t config[] = FAILSAFE_DEFAULT_CONFIG, fence[] = FAILSAFE_DEFAULT_FENCE;
     uint8_t state[FAILSAFE_STATE_BYTES], telemetry[FAILSAFE_TELEMETRY_BYTES], output[FAILSAFE_DECISION_BYTES];
     uint8_t shown[FAILSAFE_SIDE_BYTES];
     uint32_t refused;
 
-    config_frame(config);
-    fence_frame(fence);
-    refused = failsafe_fresh(state, sizeof state);
+    /* at boot: is this configuration and fence accepted? then a fresh state */
+    refused = failsafe_check(config, sizeof config, fence, sizeof fence);
+    if (refused == 0)
+        refused = failsafe_fresh(state, sizeof state);
     if (refused != 0) {
-        printf("no fresh state: %u\n", (unsigned)refused);
+        printf("not ready to fly: %u\n", (unsigned)refused);
         return 1;
     }
     for (uint32_t now = 0; now <= 40000; now += 1000) {

@@ -2,6 +2,44 @@
  *
  * Link target/staticlib/libfailsafe.a (made by `rt staticlib failsafe`). The library keeps nothing between
  * calls, allocates nothing and calls nothing back: all state is in the buffer that the host keeps.
+ * examples/host.c is a host that flies a short flight. docs/RULES.md has the rules in the order of a step.
+ *
+ * At boot
+ *
+ *   1. failsafe_check(config, fence): 0, or do not fly. FAILSAFE_DEFAULT_CONFIG and FAILSAFE_DEFAULT_FENCE are ready frames.
+ *   2. failsafe_fresh(state), once.
+ *   3. failsafe_step(..) at the host's own rate, also on the ground, with `armed` false until the motors are armed. Such a step
+ *      is a confirmed disarm: it answers Nominal and starts all timers and latches anew.
+ *   4. Arm once position, ekf_ok, heartbeat, rc_ok and a battery reading have fresh stamps.
+ *
+ * A first step with nothing read yet answers Land for PositionInvalid: link, controller and battery are missing, which asks
+ * for ReturnToLaunch, and without a position that becomes Land. From there the action steps down only after recovery_hold_ms.
+ * Nothing in the library tells the ground from the air but the readings, so a host that is not armed says so.
+ * A state that is lost in flight can't be made again: a fresh one has forgotten latches, timers and the action shown.
+ *
+ * Units: every time is milliseconds, every length metres. Position is metres from home, north, east, down (down is positive
+ * below home; altitude is -down). Home is (0, 0, 0), and the corners of fence and areas are metres north and east of the same
+ * point: a wrong origin would move the fence.
+ *
+ * What the library takes for granted
+ *
+ *   - x86-64, little-endian, and the C calling convention of Linux.
+ *   - Floats are rounded to nearest, and numbers too small to be normal are kept: no flush-to-zero, no denormals-are-zero (MXCSR
+ *     as a process starts with it). In another mode the bytes of an answer differ.
+ *   - From outside it needs memcpy and memset, and nothing else.
+ *   - Stack of a call, the most that tests/stack measures on the sample flight beside eight areas, rounded up to a multiple of 64
+ *     (a build for another processor differs):
+ *   failsafe_step        2752 bytes
+ *   failsafe_step_side   2752 bytes
+ *   failsafe_step_areas  3328 bytes
+ *   failsafe_add_area    960 bytes
+ *   failsafe_remove_area 896 bytes
+ *   - No two buffers of a call overlap, and nothing else writes to them during the call: the library can't see either. A pointer
+ *     may be null where its length is 0.
+ *   - It is reentrant: there are no globals, and threads may call it at once on buffers of their own.
+ *   - Each state belongs to one flight, and its calls come one after the other.
+ *
+ * Frames
  *
  * Every buffer is a pointer and a length. A frame is a two-byte length (of kind and body), a two-byte kind,
  * and the body; all little-endian. Body fields stand in the Rust's declared order.
@@ -21,42 +59,10 @@
  * value, all zero bytes where absent. Floats are IEEE 754 binary32; written NaNs are 7FC00000 (hexadecimal). A
  * stamp t_ms is a clock reading of 32 bits, as now_ms; the clock may wrap.
  *
- *   Telemetry, place and bytes          Decision, place and bytes
- *     4  4  now_ms                        4  1  action, as shown
- *     8  1  position: flag                5  1  reason
- *     9  4    t_ms                        6  1  requested: the action that was asked for
- *    13 12    pos north, east, down       7 57  active: 19 slots by reason, each a flag, reason, action
- *    25 12    vel north, east, down      64  1  position_valid
- *    37  1  gps: flag                    65  1  clock_fault
- *    38  4    t_ms                       66  4  energy: rtl_wh
- *    42  1    fix                        70  4    land_wh
- *    43  2    sats: flag, number         74  4    reserve_wh
- *    45  5    hdop: flag, float          78  5    remaining_wh: flag, float
- *    50  9  voltage_v: flag, t_ms, float 83  5    margin_wh: flag, float
- *    59  9  percent: the same            88  1    insufficient_for_landing
- *    68  9  remaining_wh: the same       89  5  fence_dist_m: flag, float
- *    77  5  gcs_heartbeat_ms: flag, t_ms 94  1  disarm_eligible
- *    82  6  armed: flag, t_ms, bool
- *    88  6  landed: flag, t_ms, enum
- *    94  6  rc_ok: flag, t_ms, bool
- *   100  6  ekf_ok: flag, t_ms, bool
+ * The places of all fields are below, as byte offsets into the frame. The state's bytes are the library's own: a host keeps
+ * them and hands them back.
  *
- *   action   0 Nominal, 1 Warn, 2 Hold, 3 ReturnToLaunch, 4 Land
- *   reason   0 None, 1 ClockFault, 2 InvalidInput, 3 StaleBattery, 4 GcsLinkLost, 5 RcLost, 6 GpsDegraded,
- *            7 GpsLost, 8 EkfUnhealthy, 9 PositionInvalid, 10 FenceApproach, 11 FenceBreach, 12 AltitudeMax,
- *            13 AltitudeMin, 14 BatteryWarn, 15 BatteryLow, 16 BatteryCritical, 17 EnergyRtlMarginal,
- *            18 EnergyRtlInfeasible
- *   fix      0 None, 1 Fix2D, 2 Fix3D
- *   landed   0 Undefined, 1 OnGround, 2 InAir, 3 Takeoff, 4 Landing
- *
- * Kind 6 is kind 4 with one byte put in: byte 94 is the number of the fence's side that gave the distance, and
- * disarm_eligible stands at 95. Sides count from 0 in the order in which the fence is held: counter-clockwise, so corners
- * that are sent clockwise are taken from the last to the first. Side k runs from held corner k to the next. Of
- * sides at the same distance it is the lowest number; 254 where an area is nearer than the fence (failsafe_step_areas); 255
- * where there is no distance, or none below infinity.
- *
- * Config is packed by tools/frames.py, and written field by field in examples/host.c. The state's bytes are the
- * library's own: a host keeps them and hands them back.
+ * Refusals
  *
  * Every entry answers 0 on success. Any other answer is a refusal, and then no byte of state or output has
  * changed:
@@ -83,17 +89,6 @@
  * The first refusal in this order is answered: configuration frame, fence frame, fence rules, configuration
  * rules, areas frame, areas one by one, state, telemetry, output; within a frame 1, a length under 2, 2, 3, 4. Of an area 10 to
  * 16, 33, 17, then 31, 30, 32. A frame of kind 13 whose counts don't fit its length is 3 before any of its areas is looked at.
- *
- * No two buffers of a call may overlap, and nothing else may write to them during the call: the library
- * can't see either. A pointer may be null where its length is 0.
- *
- * Stack of a call on x86-64, the most that tests/stack measures on the sample flight beside eight areas, rounded up to a multiple of
- * 64 (a build for another processor differs):
- *   failsafe_step        2752 bytes
- *   failsafe_step_side   2752 bytes
- *   failsafe_step_areas  3328 bytes
- *   failsafe_add_area    960 bytes
- *   failsafe_remove_area 896 bytes
  */
 #ifndef FAILSAFE_H
 #define FAILSAFE_H
@@ -105,6 +100,13 @@
 extern "C" {
 #endif
 
+/* Version of this header and the library of the same commit: the first number grows where a frame, a number or an entry's answer changes,
+ * the second where something is added. No entry answers it. */
+#define FAILSAFE_VERSION_MAJOR 1
+#define FAILSAFE_VERSION_MINOR 0
+#define FAILSAFE_VERSION "1.0"
+
+/* Bytes of frames. */
 #define FAILSAFE_CONFIG_BYTES 246
 #define FAILSAFE_FENCE_BYTES(corners) (13 + 8 * (corners))
 #define FAILSAFE_TELEMETRY_BYTES 106
@@ -212,12 +214,244 @@ enum failsafe_refusal {
     FAILSAFE_REFUSAL_ONE_FORM_DECLINED = 39
 };
 
-/* Places in a Decision's frame. */
-#define FAILSAFE_DECISION_ACTION 4
-#define FAILSAFE_DECISION_REASON 5
-#define FAILSAFE_DECISION_REQUESTED 6
-#define FAILSAFE_DECISION_SIDE 94 /* in kind 6 alone */
-#define FAILSAFE_SIDE_AREA 254    /* there: an area is nearest */
+/* Places of the settings in a configuration's frame, each with its type, its unit and what it is for. A duration has no limits but
+ * those told here. An age is compared so that its limit still counts.
+ *
+ * (*) This setting moves a timer of the state and changes no Decision, as long as what its line asks is kept: a request ends at the first
+ * step where its own test is false. A negative clear distance, or a clear margin below energy_marginal_wh, would end a request early. */
+enum failsafe_config_place {
+    FAILSAFE_CONFIG_CELL_COUNT = 4,                     /* u8, battery cells in series, 1 to 14 */
+    FAILSAFE_CONFIG_USABLE_CAPACITY_WH = 5,             /* f32, Wh, above 0: the energy of a full battery */
+    FAILSAFE_CONFIG_RC_REQUIRED = 9,                    /* bool, whether the hand controller (rc_ok) is looked at */
+    FAILSAFE_CONFIG_POS_FRESH_MS = 10,                  /* u32, ms: the oldest position that is valid */
+    FAILSAFE_CONFIG_GPS_FRESH_MS = 14,                  /* u32, ms: the oldest gps reading that counts */
+    FAILSAFE_CONFIG_STATUS_FRESH_MS = 18,               /* u32, ms: the oldest armed, landed, rc_ok or ekf_ok that counts */
+    FAILSAFE_CONFIG_BATTERY_FRESH_MS = 22,              /* u32, ms: the oldest voltage_v, percent or remaining_wh that counts */
+    FAILSAFE_CONFIG_RECOVERY_HOLD_MS = 26,              /* u32, ms, 1 to 600,000: how long less must be wanted before the action steps down */
+    FAILSAFE_CONFIG_GCS_WARN_MS = 30,                   /* u32, ms, 1 to 600,000: GcsLinkLost asks for Warn above this age of the heartbeat */
+    FAILSAFE_CONFIG_GCS_HOLD_MS = 34,                   /* u32, ms: for Hold above this age; keep it above gcs_warn_ms */
+    FAILSAFE_CONFIG_GCS_RTL_MS = 38,                    /* u32, ms: for ReturnToLaunch above this age; keep it above gcs_hold_ms */
+    FAILSAFE_CONFIG_GCS_CLEAR_MS = 42,                  /* u32, ms: the link is good at this age or less; keep it below gcs_warn_ms */
+    FAILSAFE_CONFIG_GCS_CLEAR_HOLD_MS = 46,             /* u32, ms: how long it must be good before GcsLinkLost ends */
+    FAILSAFE_CONFIG_RC_LOST_SET_MS = 50,                /* u32, ms (*): RcLost asks from the first step without the controller */
+    FAILSAFE_CONFIG_RC_LOST_CLEAR_MS = 54,              /* u32, ms (*): and ends at the first step with it */
+    FAILSAFE_CONFIG_GPS_DEGRADED_SET_MS = 58,           /* u32, ms: how long gps must be poor before GpsDegraded asks for Warn */
+    FAILSAFE_CONFIG_GPS_DEGRADED_CLEAR_MS = 62,         /* u32, ms (*) */
+    FAILSAFE_CONFIG_GPS_LOST_SET_MS = 66,               /* u32, ms: how long without a 3D fix before GpsLost asks for Land */
+    FAILSAFE_CONFIG_GPS_LOST_CLEAR_MS = 70,             /* u32, ms (*) */
+    FAILSAFE_CONFIG_EKF_UNHEALTHY_SET_MS = 74,          /* u32, ms: how long without a good ekf_ok before EkfUnhealthy asks for Land */
+    FAILSAFE_CONFIG_EKF_UNHEALTHY_CLEAR_MS = 78,        /* u32, ms (*) */
+    FAILSAFE_CONFIG_FENCE_APPROACH_M = 82,              /* f32, m: FenceApproach asks for Warn from 0 to under this distance */
+    FAILSAFE_CONFIG_FENCE_APPROACH_CLEAR_M = 86,        /* f32, m: no rule reads it */
+    FAILSAFE_CONFIG_FENCE_BREACH_SET_MS = 90,           /* u32, ms: how long outside before FenceBreach asks for ReturnToLaunch */
+    FAILSAFE_CONFIG_FENCE_BREACH_CLEAR_M = 94,          /* f32, m (*): keep it at 0 or above */
+    FAILSAFE_CONFIG_FENCE_BREACH_CLEAR_MS = 98,         /* u32, ms (*) */
+    FAILSAFE_CONFIG_ALT_MAX_CLEAR_M = 102,              /* f32, m (*): keep it at 0 or above */
+    FAILSAFE_CONFIG_ALT_MAX_SET_MS = 106,               /* u32, ms: how long above the fence before AltitudeMax asks for ReturnToLaunch */
+    FAILSAFE_CONFIG_ALT_MAX_CLEAR_HOLD_MS = 110,        /* u32, ms (*) */
+    FAILSAFE_CONFIG_ALT_MIN_HOME_RADIUS_M = 114,        /* f32, m from home, within which AltitudeMin is silent */
+    FAILSAFE_CONFIG_ALT_MIN_SET_MS = 118,               /* u32, ms: how long too low before AltitudeMin asks for Warn */
+    FAILSAFE_CONFIG_ALT_MIN_CLEAR_M = 122,              /* f32, m (*): keep it at 0 or above */
+    FAILSAFE_CONFIG_ALT_MIN_CLEAR_MS = 126,             /* u32, ms (*) */
+    FAILSAFE_CONFIG_STALE_BATTERY_CLEAR_MS = 130,       /* u32, ms (*): StaleBattery ends at the first fresh reading */
+    FAILSAFE_CONFIG_BATTERY_WARN_PCT = 134,             /* f32, %: BatteryWarn asks for Warn below it; above battery_low_pct */
+    FAILSAFE_CONFIG_BATTERY_WARN_CLEAR_PCT = 138,       /* f32, % (*): above battery_warn_pct */
+    FAILSAFE_CONFIG_BATTERY_WARN_SET_MS = 142,          /* u32, ms: how long below before it asks */
+    FAILSAFE_CONFIG_BATTERY_WARN_CLEAR_MS = 146,        /* u32, ms (*) */
+    FAILSAFE_CONFIG_BATTERY_LOW_PCT = 150,              /* f32, %: BatteryLow asks for ReturnToLaunch below it; above battery_critical_pct */
+    FAILSAFE_CONFIG_BATTERY_LOW_CLEAR_PCT = 154,        /* f32, % (*): above battery_low_pct */
+    FAILSAFE_CONFIG_BATTERY_LOW_SET_MS = 158,           /* u32, ms: how long below before it asks */
+    FAILSAFE_CONFIG_BATTERY_LOW_CLEAR_MS = 162,         /* u32, ms (*) */
+    FAILSAFE_CONFIG_BATTERY_CRITICAL_PCT = 166,         /* f32, %: BatteryCritical asks for Land below it, and is latched */
+    FAILSAFE_CONFIG_BATTERY_CRITICAL_V_PER_CELL = 170,  /* f32, V: or below this voltage times cell_count */
+    FAILSAFE_CONFIG_BATTERY_CRITICAL_SET_MS = 174,      /* u32, ms: how long below before it asks */
+    FAILSAFE_CONFIG_ENERGY_MARGINAL_WH = 178,           /* f32, Wh: EnergyRtlMarginal asks for ReturnToLaunch at a margin from 0 to under this */
+    FAILSAFE_CONFIG_ENERGY_MARGINAL_CLEAR_WH = 182,     /* f32, Wh (*): keep it at energy_marginal_wh or above */
+    FAILSAFE_CONFIG_ENERGY_MARGINAL_SET_MS = 186,       /* u32, ms: how long so before it asks */
+    FAILSAFE_CONFIG_ENERGY_MARGINAL_CLEAR_MS = 190,     /* u32, ms (*) */
+    FAILSAFE_CONFIG_ENERGY_INFEASIBLE_SET_MS = 194,     /* u32, ms, 1 to 600,000: how long below 0 before EnergyRtlInfeasible asks for Land; latched */
+    FAILSAFE_CONFIG_INVALID_INPUT_CLEAR_MS = 198,       /* u32, ms: how long InvalidInput stays after the last reading out of bounds */
+    FAILSAFE_CONFIG_DISARM_HOLD_MS = 202,               /* u32, ms, 1 to 600,000: how long on the ground before disarm_eligible */
+    FAILSAFE_CONFIG_V_CRUISE = 206,                     /* f32, m/s, above 0: speed of the way home */
+    FAILSAFE_CONFIG_P_CRUISE = 210,                     /* f32, W, 0 or more: power of it */
+    FAILSAFE_CONFIG_K_WIND = 214,                       /* f32, factor on the energy of the way home, for wind; it is not checked */
+    FAILSAFE_CONFIG_V_CLIMB = 218,                      /* f32, m/s, above 0: speed of a climb */
+    FAILSAFE_CONFIG_P_CLIMB = 222,                      /* f32, W, 0 or more: power of it */
+    FAILSAFE_CONFIG_V_DESC = 226,                       /* f32, m/s, above 0: speed of a descent */
+    FAILSAFE_CONFIG_P_DESC = 230,                       /* f32, W, 0 or more: power of it */
+    FAILSAFE_CONFIG_H_RTL = 234,                        /* f32, m above home, within the fence: altitude of the way home */
+    FAILSAFE_CONFIG_RESERVE_WH = 238,                   /* f32, Wh, 0 or more: left when the aircraft is home */
+    FAILSAFE_CONFIG_V_MAX = 242                         /* f32, m/s: the fastest flight; a position farther from the last than 2 * v_max * seconds + 5 m is refused */
+};
+
+/* Places in a telemetry frame. A reading that may be absent begins with a flag, 0 or 1, and where that is 0 all its bytes are 0. A
+ * reading out of its bounds counts as absent and raises InvalidInput. */
+enum failsafe_telemetry_place {
+    FAILSAFE_TELEMETRY_NOW_MS = 4,                /* u32, ms: the clock at this step. It may wrap, and must not go back */
+    FAILSAFE_TELEMETRY_POSITION = 8,              /* flag; the vehicle's estimated position */
+    FAILSAFE_TELEMETRY_POSITION_T_MS = 9,         /* u32, ms: when it was measured, on the clock of now_ms; so every t_ms */
+    FAILSAFE_TELEMETRY_POSITION_POS_NORTH = 13,   /* f32, m north of home, within 10,000 */
+    FAILSAFE_TELEMETRY_POSITION_POS_EAST = 17,    /* f32, m east of home, within 10,000 */
+    FAILSAFE_TELEMETRY_POSITION_POS_DOWN = 21,    /* f32, m below home: -50 is 50 m above; 100 to -2000 */
+    FAILSAFE_TELEMETRY_POSITION_VEL_NORTH = 25,   /* f32, m/s; of the velocity only its size is looked at, at most 100 */
+    FAILSAFE_TELEMETRY_POSITION_VEL_EAST = 29,    /* f32, m/s */
+    FAILSAFE_TELEMETRY_POSITION_VEL_DOWN = 33,    /* f32, m/s */
+    FAILSAFE_TELEMETRY_GPS = 37,                  /* flag; the satellite receiver */
+    FAILSAFE_TELEMETRY_GPS_T_MS = 38,             /* u32, ms */
+    FAILSAFE_TELEMETRY_GPS_FIX = 42,              /* enum failsafe_fix */
+    FAILSAFE_TELEMETRY_GPS_SATS = 43,             /* flag */
+    FAILSAFE_TELEMETRY_GPS_SATS_VALUE = 44,       /* u8: satellites in use */
+    FAILSAFE_TELEMETRY_GPS_HDOP = 45,             /* flag */
+    FAILSAFE_TELEMETRY_GPS_HDOP_VALUE = 46,       /* f32: horizontal dilution of precision, 0 to 100 */
+    FAILSAFE_TELEMETRY_VOLTAGE_V = 50,            /* flag */
+    FAILSAFE_TELEMETRY_VOLTAGE_V_T_MS = 51,       /* u32, ms */
+    FAILSAFE_TELEMETRY_VOLTAGE_V_VALUE = 55,      /* f32, V: of the whole battery, 0 to 100 */
+    FAILSAFE_TELEMETRY_PERCENT = 59,              /* flag */
+    FAILSAFE_TELEMETRY_PERCENT_T_MS = 60,         /* u32, ms */
+    FAILSAFE_TELEMETRY_PERCENT_VALUE = 64,        /* f32, %: the battery's charge, 0 to 100; used where remaining_wh is not fresh */
+    FAILSAFE_TELEMETRY_REMAINING_WH = 68,         /* flag */
+    FAILSAFE_TELEMETRY_REMAINING_WH_T_MS = 69,    /* u32, ms */
+    FAILSAFE_TELEMETRY_REMAINING_WH_VALUE = 73,   /* f32, Wh: left in the battery, 0 to 1.1 times usable_capacity_wh */
+    FAILSAFE_TELEMETRY_GCS_HEARTBEAT_MS = 77,     /* flag */
+    FAILSAFE_TELEMETRY_GCS_HEARTBEAT_MS_VALUE = 78, /* u32, ms: when the ground station was last heard */
+    FAILSAFE_TELEMETRY_ARMED = 82,                /* flag */
+    FAILSAFE_TELEMETRY_ARMED_T_MS = 83,           /* u32, ms */
+    FAILSAFE_TELEMETRY_ARMED_VALUE = 87,          /* bool: the motors are armed; a fresh false answers Nominal and starts anew */
+    FAILSAFE_TELEMETRY_LANDED = 88,               /* flag */
+    FAILSAFE_TELEMETRY_LANDED_T_MS = 89,          /* u32, ms */
+    FAILSAFE_TELEMETRY_LANDED_VALUE = 93,         /* enum failsafe_landed */
+    FAILSAFE_TELEMETRY_RC_OK = 94,                /* flag */
+    FAILSAFE_TELEMETRY_RC_OK_T_MS = 95,           /* u32, ms */
+    FAILSAFE_TELEMETRY_RC_OK_VALUE = 99,          /* bool: the hand controller is heard */
+    FAILSAFE_TELEMETRY_EKF_OK = 100,              /* flag */
+    FAILSAFE_TELEMETRY_EKF_OK_T_MS = 101,         /* u32, ms */
+    FAILSAFE_TELEMETRY_EKF_OK_VALUE = 105         /* bool: the position estimator is healthy; no position is valid without it */
+};
+
+/* Places in a Decision's frame, kind 4 and kind 6.
+ *
+ * `requested` is the highest action that this step's own requests ask for. `action` is what the aircraft does: it may stand higher,
+ * since an action steps down only after recovery_hold_ms, a latch keeps Land, and Hold and ReturnToLaunch without a valid position
+ * become Land. A host shows `requested` beside `action` to tell a pilot that the trouble is over and the hold still runs.
+ *
+ * `disarm_eligible` tells the autopilot that it may stop the motors after a landing: Land has been requested, and fresh readings have
+ * said armed and OnGround, for disarm_hold_ms without a break. It is a permission, not an order, and no other byte gives it. */
+enum failsafe_decision_place {
+    FAILSAFE_DECISION_ACTION = 4,                 /* enum failsafe_action: what to do now */
+    FAILSAFE_DECISION_REASON = 5,                 /* enum failsafe_reason: the one reason shown with it */
+    FAILSAFE_DECISION_REQUESTED = 6,              /* enum failsafe_action: what this step's requests ask for; see below */
+    FAILSAFE_DECISION_ACTIVE = 7,                 /* 19 slots by reason: FAILSAFE_DECISION_SLOT(reason) */
+    FAILSAFE_DECISION_POSITION_VALID = 64,        /* bool: position and ekf_ok are fresh and good; false at a confirmed disarm */
+    FAILSAFE_DECISION_CLOCK_FAULT = 65,           /* bool: now_ms went back; timers rest and the last action stays */
+    FAILSAFE_DECISION_ENERGY_RTL_WH = 66,         /* f32, Wh: to fly home and land; without a position as from home */
+    FAILSAFE_DECISION_ENERGY_LAND_WH = 70,        /* f32, Wh: to land here */
+    FAILSAFE_DECISION_ENERGY_RESERVE_WH = 74,     /* f32, Wh: reserve_wh of the configuration */
+    FAILSAFE_DECISION_ENERGY_REMAINING_WH = 78,   /* flag; absent without a fresh remaining_wh or percent */
+    FAILSAFE_DECISION_ENERGY_REMAINING_WH_VALUE = 79, /* f32, Wh: left in the battery */
+    FAILSAFE_DECISION_ENERGY_MARGIN_WH = 83,      /* flag; absent as above */
+    FAILSAFE_DECISION_ENERGY_MARGIN_WH_VALUE = 84, /* f32, Wh: remaining less rtl_wh less reserve_wh; below 0 home is out of reach */
+    FAILSAFE_DECISION_ENERGY_INSUFFICIENT_FOR_LANDING = 88, /* bool: less remains than land_wh */
+    FAILSAFE_DECISION_FENCE_DIST_M = 89,          /* flag; absent without a position */
+    FAILSAFE_DECISION_FENCE_DIST_M_VALUE = 90,    /* f32, m: to the nearest side, below 0 outside; beside areas the clearance */
+    FAILSAFE_DECISION_DISARM_ELIGIBLE = 94        /* bool, in kind 4; in kind 6 it is at FAILSAFE_SIDE_DISARM_ELIGIBLE */
+};
+#define FAILSAFE_DECISION_SLOT(reason) (7 + 3 * (reason)) /* flag, then the reason, then the action it asks for */
+
+/* In kind 6 alone. Byte 94 is the number of the fence's side that gave the distance. Sides count from 0 in the order in which the
+ * fence is held: counter-clockwise, so corners that are sent clockwise are taken from the last to the first. Side k runs from held
+ * corner k to the next. Of sides at the same distance it is the lowest number. */
+#define FAILSAFE_DECISION_SIDE 94
+#define FAILSAFE_SIDE_DISARM_ELIGIBLE 95
+#define FAILSAFE_SIDE_AREA 254 /* an area is nearer than the fence (failsafe_step_areas) */
+#define FAILSAFE_SIDE_NONE 255 /* there is no distance, or none below infinity */
+
+/* Places in a fence's frame; altitudes and corners are f32, metres. */
+#define FAILSAFE_FENCE_CORNERS 4                    /* u8: how many, 3 to 16 */
+#define FAILSAFE_FENCE_MIN_ALT_M 5                  /* AltitudeMin asks below it, away from home */
+#define FAILSAFE_FENCE_MAX_ALT_M 9                  /* AltitudeMax asks above it */
+#define FAILSAFE_FENCE_NORTH(corner) (13 + 8 * (corner))
+#define FAILSAFE_FENCE_EAST(corner) (17 + 8 * (corner))
+
+/* The default configuration as a frame: uint8_t config[FAILSAFE_CONFIG_BYTES] = FAILSAFE_DEFAULT_CONFIG;
+ * Change a setting at its place, little-endian, and ask failsafe_check. */
+#define FAILSAFE_DEFAULT_CONFIG \
+    { \
+        0xf4, 0x00, 0x01, 0x00,  /* 244 bytes of kind and body, kind 1 */ \
+        0x04,                    /* cell_count 4 */ \
+        0x00, 0x00, 0x20, 0x42,  /* usable_capacity_wh 40 */ \
+        0x01,                    /* rc_required true */ \
+        0xf4, 0x01, 0x00, 0x00,  /* pos_fresh_ms 500 */ \
+        0xe8, 0x03, 0x00, 0x00,  /* gps_fresh_ms 1000 */ \
+        0xe8, 0x03, 0x00, 0x00,  /* status_fresh_ms 1000 */ \
+        0xd0, 0x07, 0x00, 0x00,  /* battery_fresh_ms 2000 */ \
+        0x88, 0x13, 0x00, 0x00,  /* recovery_hold_ms 5000 */ \
+        0xb8, 0x0b, 0x00, 0x00,  /* gcs_warn_ms 3000 */ \
+        0x88, 0x13, 0x00, 0x00,  /* gcs_hold_ms 5000 */ \
+        0x98, 0x3a, 0x00, 0x00,  /* gcs_rtl_ms 15000 */ \
+        0xdc, 0x05, 0x00, 0x00,  /* gcs_clear_ms 1500 */ \
+        0xb8, 0x0b, 0x00, 0x00,  /* gcs_clear_hold_ms 3000 */ \
+        0xe8, 0x03, 0x00, 0x00,  /* rc_lost_set_ms 1000 */ \
+        0xb8, 0x0b, 0x00, 0x00,  /* rc_lost_clear_ms 3000 */ \
+        0xd0, 0x07, 0x00, 0x00,  /* gps_degraded_set_ms 2000 */ \
+        0x88, 0x13, 0x00, 0x00,  /* gps_degraded_clear_ms 5000 */ \
+        0xdc, 0x05, 0x00, 0x00,  /* gps_lost_set_ms 1500 */ \
+        0x88, 0x13, 0x00, 0x00,  /* gps_lost_clear_ms 5000 */ \
+        0xe8, 0x03, 0x00, 0x00,  /* ekf_unhealthy_set_ms 1000 */ \
+        0x88, 0x13, 0x00, 0x00,  /* ekf_unhealthy_clear_ms 5000 */ \
+        0x00, 0x00, 0x20, 0x41,  /* fence_approach_m 10 */ \
+        0x00, 0x00, 0x70, 0x41,  /* fence_approach_clear_m 15 */ \
+        0xf4, 0x01, 0x00, 0x00,  /* fence_breach_set_ms 500 */ \
+        0x00, 0x00, 0xa0, 0x40,  /* fence_breach_clear_m 5 */ \
+        0x88, 0x13, 0x00, 0x00,  /* fence_breach_clear_ms 5000 */ \
+        0x00, 0x00, 0xa0, 0x40,  /* alt_max_clear_m 5 */ \
+        0xf4, 0x01, 0x00, 0x00,  /* alt_max_set_ms 500 */ \
+        0xb8, 0x0b, 0x00, 0x00,  /* alt_max_clear_hold_ms 3000 */ \
+        0x00, 0x00, 0xa0, 0x41,  /* alt_min_home_radius_m 20 */ \
+        0xe8, 0x03, 0x00, 0x00,  /* alt_min_set_ms 1000 */ \
+        0x00, 0x00, 0x00, 0x40,  /* alt_min_clear_m 2 */ \
+        0xe8, 0x03, 0x00, 0x00,  /* alt_min_clear_ms 1000 */ \
+        0xb8, 0x0b, 0x00, 0x00,  /* stale_battery_clear_ms 3000 */ \
+        0x00, 0x00, 0xf0, 0x41,  /* battery_warn_pct 30 */ \
+        0x00, 0x00, 0x04, 0x42,  /* battery_warn_clear_pct 33 */ \
+        0xd0, 0x07, 0x00, 0x00,  /* battery_warn_set_ms 2000 */ \
+        0x88, 0x13, 0x00, 0x00,  /* battery_warn_clear_ms 5000 */ \
+        0x00, 0x00, 0xa0, 0x41,  /* battery_low_pct 20 */ \
+        0x00, 0x00, 0xb8, 0x41,  /* battery_low_clear_pct 23 */ \
+        0xd0, 0x07, 0x00, 0x00,  /* battery_low_set_ms 2000 */ \
+        0x88, 0x13, 0x00, 0x00,  /* battery_low_clear_ms 5000 */ \
+        0x00, 0x00, 0x20, 0x41,  /* battery_critical_pct 10 */ \
+        0x33, 0x33, 0x53, 0x40,  /* battery_critical_v_per_cell 3.3 */ \
+        0xb8, 0x0b, 0x00, 0x00,  /* battery_critical_set_ms 3000 */ \
+        0x00, 0x00, 0xa0, 0x40,  /* energy_marginal_wh 5 */ \
+        0x00, 0x00, 0xe0, 0x40,  /* energy_marginal_clear_wh 7 */ \
+        0xd0, 0x07, 0x00, 0x00,  /* energy_marginal_set_ms 2000 */ \
+        0x88, 0x13, 0x00, 0x00,  /* energy_marginal_clear_ms 5000 */ \
+        0xd0, 0x07, 0x00, 0x00,  /* energy_infeasible_set_ms 2000 */ \
+        0xb8, 0x0b, 0x00, 0x00,  /* invalid_input_clear_ms 3000 */ \
+        0xd0, 0x07, 0x00, 0x00,  /* disarm_hold_ms 2000 */ \
+        0x00, 0x00, 0x20, 0x41,  /* v_cruise 10 */ \
+        0x00, 0x00, 0xaf, 0x43,  /* p_cruise 350 */ \
+        0x00, 0x00, 0xa0, 0x3f,  /* k_wind 1.25 */ \
+        0x00, 0x00, 0x00, 0x40,  /* v_climb 2 */ \
+        0x00, 0x00, 0xc8, 0x43,  /* p_climb 400 */ \
+        0x00, 0x00, 0xc0, 0x3f,  /* v_desc 1.5 */ \
+        0x00, 0x00, 0x96, 0x43,  /* p_desc 300 */ \
+        0x00, 0x00, 0xf0, 0x41,  /* h_rtl 30 */ \
+        0x00, 0x00, 0x00, 0x41,  /* reserve_wh 8 */ \
+        0x00, 0x00, 0xc8, 0x41   /* v_max 25 */ \
+    }
+
+/* The default fence as a frame of kind 2: a square of 1,000 m about home, from 5 m to 120 m. */
+#define FAILSAFE_DEFAULT_FENCE \
+    { \
+        0x2b, 0x00, 0x02, 0x00,                          /* 43 bytes of kind and body, kind 2 */ \
+        0x04,                                            /* 4 corners */ \
+        0x00, 0x00, 0xa0, 0x40, 0x00, 0x00, 0xf0, 0x42,  /* 5 m, 120 m */ \
+        0x00, 0x00, 0xfa, 0xc3, 0x00, 0x00, 0xfa, 0xc3,  /* -500, -500 */ \
+        0x00, 0x00, 0xfa, 0xc3, 0x00, 0x00, 0xfa, 0x43,  /* -500, 500 */ \
+        0x00, 0x00, 0xfa, 0x43, 0x00, 0x00, 0xfa, 0x43,  /* 500, 500 */ \
+        0x00, 0x00, 0xfa, 0x43, 0x00, 0x00, 0xfa, 0xc3   /* 500, -500 */ \
+    }
 
 /* One step: the state is rewritten, and the Decision stands in the first 95 bytes of output; later bytes stay.
  * Configuration and fence come with every call and are checked each time. */

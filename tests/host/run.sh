@@ -1,6 +1,7 @@
 #!/usr/bin/env bash
 # The C example: compiled with warnings as errors, linked with the static library, and what it prints compared with
-# examples/host.out. Then calls with slices of no bytes (empty.c).
+# examples/host.out. Then calls with slices of no bytes (empty.c). The library needs from outside what include/failsafe.h says, and has no
+# globals that can be written.
 set -eu
 . "$(dirname "${BASH_SOURCE[0]}")/../common.sh"
 cd "$top"
@@ -13,4 +14,13 @@ done
 "$build/host" >"$build/host.out"
 cmp "$build/host.out" examples/host.out
 "$build/empty" <samples/flight.frames
+library=target/staticlib/libfailsafe.a
+if [ "$(nm -u "$library" | awk '$1 == "U" { print $2 }' | sort -u | tr '\n' ' ')" != "memcpy memset " ]; then
+    echo "the library needs other functions from outside than include/failsafe.h says: $(nm -u "$library" | tr '\n' ' ')"
+    exit 1
+fi
+if [ "$(size "$library" | awk 'NR > 1 { sum += $2 + $3 } END { print sum }')" != 0 ]; then
+    echo "the library has globals that can be written: $(size "$library")"
+    exit 1
+fi
 echo "host: $(wc -l <"$build/host.out") lines, all as kept; empty slices are refused"

@@ -1,11 +1,12 @@
 #!/usr/bin/env python3
-"""Names, numbers, orders and defaults that stand in several places are the same in all of them: the crates' declarations and definitions, which the
-prover holds the code to; include/failsafe.h; tools/frames.py; examples/host.c. Prints what differs; exit status 1 where anything does.
+"""Names, numbers, places, orders and defaults that stand in several files are the same in all of them: the crates' declarations and definitions,
+which the prover holds the code to; include/failsafe.h; tools/frames.py; examples/host.c. Prints what differs; exit status 1 where anything does.
 
   names.py FOLDER     the repository's folder
 """
 import importlib.util
 import re
+import struct
 import sys
 from pathlib import Path
 
@@ -60,10 +61,76 @@ def defaults():
     return found
 
 
-def example():
-    """The settings that examples/host.c writes, in order."""
-    body = re.search(r"static void config_frame\(.*?\n\}", text("examples/host.c"), re.S).group(0)
-    return [(name, float(value.rstrip("uf"))) for value, name in re.findall(r"put_\w+\(&w, ([\d.]+[uf]?)\); /\* (\w+) \*/", body)]
+def definition(crate, name, arguments):
+    """The text of a definition of a crate's specs, up to the next empty line; None where it is not there."""
+    for path in sorted((TOP / "crates" / crate / "specs").glob("*.antt")):
+        found = re.search(r"^%s %s =(.*?)(?:\n\n|\Z)" % (name, arguments), path.read_text(encoding="utf-8"), re.S | re.M)
+        if found:
+            return found.group(1)
+    return None
+
+
+def within(reader):
+    """What a reading is made of: each part's name, its reader and its distance from the reading's first byte. Empty for a plain number."""
+    bodies = [definition(crate, reader, "s i") for crate in ("options", "frame_telemetry")]
+    body = next((body for body in bodies if body and "s (i + " in body), "")
+    parts = [("", "flagAt", 0)] if "cond (flagAt s i)" in body else []
+    fields = re.findall(r"«?(\w+)»? = (\w+At) s (?:i|\(i \+ (\d+)\))(?=[ ;])", body)
+    if fields:
+        return parts + [(name, kind, int(on or 0)) for name, kind, on in fields]
+    values = re.findall(r"\((\w+At) s \(i \+ (\d+)\)\)", body)
+    names = ["value"] if len(values) == 1 else ["t_ms", "value"]
+    return parts + [(name, kind, int(on)) for name, (kind, on) in zip(names, values)]
+
+
+AXES = {"n": "north", "e": "east", "d": "down"}
+
+
+def places(name, reader, at):
+    """The places of a reading and of its parts, by name."""
+    found = {}
+    for part, kind, on in within(reader) or [("", None, 0)]:
+        whole = f"{name}_{AXES.get(part, part)}" if part else name
+        found.update({whole: at + on} if kind in (None, "flagAt") and not part else places(whole, kind, at + on))
+    return found
+
+
+def fields_at(body):
+    """The fields of a frame's definition: name, reader, place."""
+    return [(name, kind, int(at)) for name, kind, at in re.findall(r"«?(\w+)»? = (\w+At) s (\d+)", body)]
+
+
+def frame_places(body, prefix=""):
+    found = {}
+    for name, kind, at in fields_at(body):
+        if kind == "slotsAt":
+            name, at = "active", int(re.search(r"slotAt s \((\d+) \+ 3 \* n\)", text("crates/frame_decision/specs/Slots.antt")).group(1))
+        found.update(places(prefix + name, kind, at))
+    return found
+
+
+def header_places(tag):
+    """The places that the header has for a frame, by name."""
+    body = re.search(r"enum failsafe_%s_place \{(.*?)\n\};" % tag, text("include/failsafe.h"), re.S).group(1)
+    return {name.lower(): int(at) for name, at in re.findall(r"FAILSAFE_%s_(\w+) = (\d+)" % tag.upper(), body)}
+
+
+def setting_types():
+    """Each setting's type, as the header's comments have it."""
+    return dict((name.lower(), kind) for name, kind in re.findall(r"FAILSAFE_CONFIG_(\w+) = \d+,? +/\* (u8|u32|f32|bool), ", text("include/failsafe.h")))
+
+
+def initialiser(name):
+    """The bytes of an initialiser of the header, and what its comments say."""
+    body = re.search(r"#define %s \\\n    \{(.*?)\n    \}" % name, text("include/failsafe.h"), re.S).group(1)
+    told = re.findall(r"/\* (\w+) (\S+) \*/", body)
+    return bytes(int(byte, 16) for byte in re.findall(r"0x([0-9a-f]{2})", re.sub(r"/\*.*?\*/", "", body))), told
+
+
+def packed(kind, value):
+    """A setting's bytes."""
+    return {"u8": lambda: bytes([value]), "bool": lambda: bytes([value]), "u32": lambda: struct.pack("<I", value),
+            "f32": lambda: struct.pack("<f", value)}[kind]()
 
 
 def refusals():
@@ -71,6 +138,10 @@ def refusals():
     numbers = re.findall(r"fenceErrorNumber FenceError\.(\w+) = (\d+)", text("crates/corners/specs/Acceptance.antt"))
     numbers += re.findall(r"configErrorNumber ConfigError\.(\w+) = (\d+)", text("crates/config/specs/Config.antt"))
     return {name: int(number) for name, number in numbers}
+
+
+def json_like(value):
+    return str(value).lower() if isinstance(value, bool) else f"{value:g}" if isinstance(value, float) else str(value)
 
 
 frames = tool()
@@ -99,9 +170,22 @@ declared = [(name, types.get(kind, kind)) for name, kind in re.findall(r"pub (\w
 same("settings, crates/config and tools/frames.py", declared, [(name, kind) for name, kind, _ in frames.CONFIG_FIELDS])
 same("defaults, crates/config and tools/frames.py", defaults(), [(name, value) for name, _, value in frames.CONFIG_FIELDS])
 
-same("settings and defaults, crates/config and examples/host.c", [(name, float(value)) for name, value in defaults()], example())
+config = fields_at(definition("frame_config", "configAt", "s"))
+same("places of settings, crates/frame_config and the header", {name: at for name, _, at in config}, header_places("config"))
+same("types of settings, crates/config and the header", [(name, {"flag": "bool"}.get(kind, kind)) for name, kind in declared], list(setting_types().items()))
+same("places of telemetry, crates/frame_telemetry and the header",
+     frame_places(definition("frame_telemetry", "telemetryAt", "s")), header_places("telemetry"))
+decision = frame_places(definition("frame_decision", "decisionAt", "s"))
+decision.update(frame_places(definition("frame_decision", "estimateAt", "s"), "energy_"))
+same("places of a Decision, crates/frame_decision and the header", decision, header_places("decision"))
+
+bytes_, told = initialiser("FAILSAFE_DEFAULT_CONFIG")
+kinds = setting_types()
+same("the header's default configuration", (struct.pack("<HH", 244, 1) + b"".join(packed(kinds[name], value) for name, value in defaults())).hex(), bytes_.hex())
+same("the header's default configuration, in words", [(name, json_like(value)) for name, value in defaults()], told)
+same("the header's default fence and tools/frames.py", frames.fence_frame({}).hex(), initialiser("FAILSAFE_DEFAULT_FENCE")[0].hex())
 
 for line in differs:
     print("differs:", line)
-print(f"{len(declared)} settings with their defaults, {len(header)} refusals, {sum(map(len, (frames.ACTIONS, frames.REASONS, frames.FIXES, frames.LANDED)))} names of actions, reasons, fixes and landed states")
+print(f"{len(declared)} settings with their places and defaults, {len(header_places('telemetry')) + len(decision)} places of telemetry and Decision, {len(header)} refusals, {sum(map(len, (frames.ACTIONS, frames.REASONS, frames.FIXES, frames.LANDED)))} names of actions, reasons, fixes and landed states")
 sys.exit(1 if differs else 0)
