@@ -17,6 +17,10 @@
   frames.py draw INPUT [FILE]           draws the fence of a flight or of frames (INPUT: - for standard input) as SVG,
                                         north up, with the number of each side, in the order in which the fence is held,
                                         and every area that is held at some time, with its number
+  frames.py draw INPUT [FILE] --decisions FILE
+                                        draws the whole flight on a page: the actions over time, the requests by reason, distance
+                                        and energy margin, and the way flown over fence and areas (FILE behind --decisions: what
+                                        `decide` answered, - for standard input; status 1 as for show --input)
   frames.py points POINTS.txt [FILE]    packs points, a line of north and east each, into 8 bytes each, for failsafe_inside
   frames.py map INPUT POINTS.txt ANSWERS [FILE]
                                         draws the fence with the points, those inside filled (ANSWERS: what
@@ -1098,6 +1102,298 @@ def draw_fence(body, points=(), areas=()):
     return "\n".join(lines + ["</svg>", ""])
 
 
+# ---- a flight on a page
+
+PAGE_WIDTH, PAGE_LEFT, PAGE_RIGHT, MAP_SIZE = 1120, 168, 1088, 460
+ACTION_COLOURS = {"Nominal": "#4f9d69", "Warn": "#f2c14e", "Hold": "#5b8fd6", "ReturnToLaunch": "#e07b39", "Land": "#b8322f"}
+INK, FAINT, GRID = "#222222", "#666666", "#e2e2e2"
+
+
+def svg_text(x, y, text, size=12, anchor="start", fill=INK, more=""):
+    return f'<text x="{x:.1f}" y="{y:.1f}" font-size="{size}" text-anchor="{anchor}" fill="{fill}"{more}>{text}</text>'
+
+
+def svg_rect(x, y, width, height, fill, more=""):
+    return f'<rect x="{x:.1f}" y="{y:.1f}" width="{width:.1f}" height="{height:.1f}" fill="{fill}"{more}/>'
+
+
+def svg_line(x, y, x1, y1, stroke=INK, more=""):
+    return f'<line x1="{x:.1f}" y1="{y:.1f}" x2="{x1:.1f}" y2="{y1:.1f}" stroke="{stroke}"{more}/>'
+
+
+def elapsed(times):
+    """Seconds of each step on a clock that goes on where the 32 bits wrap. A reading that went back stays where the last one was."""
+    last, at, seconds = times[0], times[0], []
+    for now in times:
+        age = (now - last) & 0xFFFFFFFF
+        if age < 1 << 31:
+            last, at = now, at + age
+        seconds.append(at / 1000)
+    return seconds
+
+
+def runs(values):
+    """Equal neighbours together: the first place, the place behind the last, the value."""
+    first = 0
+    for at in range(1, len(values) + 1):
+        if at == len(values) or values[at] != values[first]:
+            yield first, at, values[first]
+            first = at
+
+
+def ticks(low, high, most):
+    """Round numbers from low to high, at most so many."""
+    step = 10.0 ** math.floor(math.log10(max(high - low, 1e-6) / most))
+    while (high - low) / step > most:
+        step *= 2.5 if round(step / 10 ** math.floor(math.log10(step) + 1e-9)) == 2 else 2
+    return [k * step for k in range(math.ceil(low / step - 1e-9), math.floor(high / step + 1e-9) + 1)]
+
+
+def time_scale(seconds):
+    """Where a time is on the page; each step lasts until the next, and the last one as long as most do."""
+    gaps = sorted(b - a for a, b in zip(seconds, seconds[1:]))
+    ends = seconds + [seconds[-1] + ((gaps[len(gaps) // 2] if gaps else 0) or 1)]
+    return ends, lambda t: PAGE_LEFT + (PAGE_RIGHT - PAGE_LEFT) * (t - ends[0]) / max(ends[-1] - ends[0], 1e-3)
+
+
+def draw_times(ends, place, top, bottom):
+    """The lines of the clock through all charts, and their times below."""
+    lines = []
+    for t in ticks(ends[0], ends[-1], 16 if ends[-1] < 10000 else 8):
+        lines.append(svg_line(place(t), top, place(t), bottom, GRID))
+        lines.append(svg_text(place(t), bottom + 16, f"{t:.10g}", 11, "end" if place(t) > PAGE_RIGHT - 20 else "middle", FAINT))
+    return lines + [svg_text(PAGE_LEFT - 10, bottom + 16, "clock, s", 11, "end", FAINT)]
+
+
+def draw_band(decisions, ends, place, top):
+    """The actions over time, each with its name and reason where there is room."""
+    lines = [svg_text(PAGE_LEFT - 10, top + 21, "action", 13, "end")]
+    for first, behind, (action, reason) in runs([(one["action"], one["reason"]) for one in decisions]):
+        x, width = place(ends[first]), place(ends[behind]) - place(ends[first])
+        lines.append(svg_rect(x, top, width, 32, ACTION_COLOURS[action], ' stroke="white" stroke-width="0.5"'))
+        fill = INK if action == "Warn" else "white"
+        if width > 7 * len(action):
+            both = reason != "None" and width > 5.55 * len(reason) + 4
+            lines.append(svg_text(x + width / 2, top + (14 if both else 20), action, 12, "middle", fill))
+            lines += [svg_text(x + width / 2, top + 27, reason, 9.5, "middle", fill)] if both else []
+    return lines
+
+
+def lanes_of(decisions):
+    """The lanes under the band: a name, and a colour or None for each step. Reasons that never ask have none."""
+    lanes = []
+    for k, reason in enumerate(REASONS):
+        asked = [one["active"][k] for one in decisions]
+        if any(asked):
+            lanes.append((reason, [slot and ACTION_COLOURS[slot[1]] for slot in asked]))
+    notes = [("no valid position", lambda one: not one["position_valid"]), ("may disarm", lambda one: one["disarm_eligible"])]
+    return lanes + [(name, ["#9a9a9a" if test(one) else None for one in decisions]) for name, test in notes if any(map(test, decisions))]
+
+
+def draw_lanes(lanes, ends, place, top):
+    lines = []
+    for k, (name, colours) in enumerate(lanes):
+        y = top + 20 * k
+        lines.append(svg_rect(PAGE_LEFT, y, PAGE_RIGHT - PAGE_LEFT, 16, "#f5f5f5"))
+        lines.append(svg_text(PAGE_LEFT - 10, y + 12, name, 12, "end"))
+        lines += [svg_rect(place(ends[first]), y, place(ends[behind]) - place(ends[first]), 16, colour)
+                  for first, behind, colour in runs(colours) if colour]
+    return lines
+
+
+def thinned(points):
+    """Points of a line without those that can't be seen: of each tenth of a pixel the first, lowest, highest and last."""
+    kept_points = []
+    for first, behind, _ in runs([round(10 * x) for x, _ in points]):
+        own = points[first:behind]
+        kept_points += own if len(own) < 5 else [own[0], min(own, key=lambda p: p[1]), max(own, key=lambda p: p[1]), own[-1]]
+    return kept_points
+
+
+def draw_line(values, ends, place, top, height, title, limits):
+    """A chart of a number over time, with gaps where it is absent, and a dashed line at each limit."""
+    finite = [x for x in values if x is not None and math.isfinite(x)] + [x for x in limits if math.isfinite(x)]
+    low, high = min(finite), max(finite)
+    pad = 0.06 * (high - low) or 1
+    low, high = low - pad, high + pad
+
+    def level(x):
+        return top + height * (high - x) / (high - low)
+
+    lines = [svg_text(PAGE_LEFT, top - 7, title, 12)]
+    for x in ticks(low, high, 6):
+        lines += [svg_line(PAGE_LEFT, level(x), PAGE_RIGHT, level(x), GRID), svg_text(PAGE_LEFT - 10, level(x) + 4, f"{x:g}", 11, "end", FAINT)]
+    lines += [svg_line(PAGE_LEFT, level(x), PAGE_RIGHT, level(x), "#b8322f", ' stroke-dasharray="5 4"') for x in limits if math.isfinite(x)]
+    for first, behind, there in runs([x is not None and math.isfinite(x) for x in values]):
+        if there:
+            points = thinned([(place(ends[k]), level(values[k])) for k in range(first, behind)])
+            text = " ".join(f"{x:.1f},{y:.1f}" for x, y in points)
+            end = f'{points[-1][0] + 1.5:.1f},{points[-1][1]:.1f}'
+            lines.append(f'<polyline points="{text} {end}" fill="none" stroke="#1f4e79" stroke-width="1.8" stroke-linejoin="round"/>')
+    return lines + [svg_rect(PAGE_LEFT, top, PAGE_RIGHT - PAGE_LEFT, height, "none", ' stroke="#999999"')]
+
+
+def map_scale(points, left, top):
+    """Where north and east are on the map, which shows all the points with the same scale both ways, and the pixels of a metre."""
+    norths, easts = [n for n, _ in points], [e for _, e in points]
+    size = 1.16 * max(max(norths) - min(norths), max(easts) - min(easts), 1)
+    north, east = (max(norths) + min(norths)) / 2, (max(easts) + min(easts)) / 2
+    scale = MAP_SIZE / size
+    return scale, lambda n, e: (left + MAP_SIZE / 2 + scale * (e - east), top + MAP_SIZE / 2 - scale * (n - north))
+
+
+def beside(points):
+    """A way's points three pixels to the right of the direction of flight, two for each stretch, so that a way back along the way out is
+    seen beside it. Each stretch: its two ends, and the number of the point it leads to."""
+    across, stretches = (0.0, 0.0), []
+    for k, ((x, y), (x1, y1)) in enumerate(zip(points, points[1:]), 1):
+        long = math.hypot(x1 - x, y1 - y)
+        if long > 0.3:
+            across = (-3 * (y1 - y) / long, 3 * (x1 - x) / long)
+        stretches.append(((x + across[0], y + across[1]), (x1 + across[0], y1 + across[1]), k))
+    return stretches
+
+
+def draw_way(way, place):
+    """The way flown, in the colour of the action shown where each stretch ends."""
+    stretches, lines = beside([place(n, e) for n, e, _ in way]), []
+    for first, behind, action in runs([way[k][2] for _, _, k in stretches]):
+        ends = [end for start, stop, _ in stretches[first:behind] for end in (start, stop)]
+        points = " ".join(f"{x:.1f},{y:.1f}" for first, _, (x, y) in runs(ends))
+        lines.append(f'<polyline points="{points}" fill="none" stroke="{ACTION_COLOURS[action]}" stroke-width="4" stroke-linejoin="round"/>')
+    return lines
+
+
+def draw_marks(way, place):
+    """Home as a cross; the first position as a ring, the last as a dot in the colour of its action."""
+    x, y = place(0, 0)
+    lines = [svg_line(x - 11, y, x + 11, y), svg_line(x, y - 11, x, y + 11)]
+    if way:
+        (x, y), (x1, y1) = place(*way[0][:2]), place(*way[-1][:2])
+        lines.append(f'<circle cx="{x:.1f}" cy="{y:.1f}" r="7" fill="none" stroke="{INK}" stroke-width="1.5"/>')
+        lines.append(f'<circle cx="{x1:.1f}" cy="{y1:.1f}" r="4" fill="{ACTION_COLOURS[way[-1][2]]}" stroke="{INK}"/>')
+    return lines
+
+
+def draw_sides(corners, place):
+    """The fence, with the number of each side outside it beside its middle."""
+    ends = [place(*corner) for corner in corners]
+    outline = " ".join(f"{x:.1f},{y:.1f}" for x, y in ends)
+    lines = [f'<polygon points="{outline}" fill="#f3f8f4" stroke="{INK}" stroke-width="1.5"/>']
+    for side, ((x, y), (x1, y1)) in enumerate(zip(ends, ends[1:] + ends[:1])):
+        long = max(math.hypot(x1 - x, y1 - y), 1)
+        lines.append(svg_text((x + x1) / 2 + 13 * (y1 - y) / long, (y + y1) / 2 - 13 * (x1 - x) / long + 4, side, 12, "middle", FAINT))
+    return lines
+
+
+def draw_ruler(scale, left, top):
+    """A length to scale under the map, and beside it where north is."""
+    metres = ticks(0, MAP_SIZE / scale / 3, 3)[-1]
+    x, y = left, top + MAP_SIZE + 16
+    ruler = [svg_line(x, y, x + scale * metres, y, INK, ' stroke-width="2"')] + [svg_line(at, y - 4, at, y + 4) for at in (x, x + scale * metres)]
+    ruler.append(svg_text(x + scale * metres + 10, y + 4, f"{metres:g} m", 12))
+    x = left + MAP_SIZE + 16
+    return ruler + [f'<path d="M {x} {top} l 6 18 l -6 -5 l -6 5 z" fill="{INK}"/>', svg_text(x, top + 32, "N", 12, "middle")]
+
+
+def draw_keep_out(ends):
+    outline = " ".join(f"{x:.1f},{y:.1f}" for x, y in ends)
+    return f'<polygon points="{outline}" fill="#f6d5d3" stroke="#b8322f"/>'
+
+
+def name_keep_out(area, ends):
+    """An area's number beside it, with a white edge, since a way may be below it."""
+    x, y = max(ends)
+    return svg_text(x + 6, y - 4, f"area {area}", 12, "start", "#b8322f", ' stroke="white" stroke-width="3" paint-order="stroke"')
+
+
+def draw_map(corners, areas, way, left, top):
+    points = corners + [(0.0, 0.0)] + [(n, e) for n, e, _ in way] + [corner for _, ring in areas for corner in ring]
+    scale, place = map_scale(points, left, top)
+    lines = [svg_rect(left, top, MAP_SIZE, MAP_SIZE, "#fbfbfb", ' stroke="#999999"')] + draw_sides(corners, place)
+    rings = [(area, [place(n, e) for n, e in ring]) for area, ring in areas]
+    lines += [draw_keep_out(ends) for _, ends in rings] + draw_way(way, place) + [name_keep_out(area, ends) for area, ends in rings]
+    return lines + draw_marks(way, place) + draw_ruler(scale, left, top)
+
+
+def draw_legend(decisions, ends, areas, left, top):
+    """The colours with the steps and seconds of each action, and the marks of the map."""
+    lines = [svg_text(left, top + 4, "action", 12, "start", FAINT), svg_text(left + 210, top + 4, "steps", 12, "end", FAINT), svg_text(left + 290, top + 4, "seconds", 12, "end", FAINT)]
+    for k, action in enumerate(ACTIONS):
+        y, own = top + 26 + 22 * k, [at for at, one in enumerate(decisions) if one["action"] == action]
+        lines += [svg_rect(left, y - 12, 18, 15, ACTION_COLOURS[action]), svg_text(left + 26, y, action, 13), svg_text(left + 210, y, len(own), 13, "end"),
+                  svg_text(left + 290, y, f"{sum(ends[at + 1] - ends[at] for at in own):.10g}", 13, "end")]
+    y = top + 26 + 22 * len(ACTIONS) + 16
+    told = ["A request has the colour of the action it asks for.", "", "On the map:", "cross: home", "ring: first position", "dot: last position",
+            "way flown: the colour of the action shown, drawn a little to", "the right of the direction of flight", "numbers outside the fence: its sides"] + ["red: keep-out areas held at some time"] * bool(areas)
+    return lines + [svg_text(left, y + 19 * k, line, 12, "start", FAINT) for k, line in enumerate(told)]
+
+
+def way_of(frames, decisions):
+    """North, east and the action shown, of each step that took a position: its Decision has a distance then."""
+    bodies = [bytes_ for _, kind, bytes_ in frames if kind == TELEMETRY]
+    return [(*struct.unpack_from("<ff", bytes_, 9), one["action"]) for bytes_, one in zip(bodies, decisions) if one["fence_dist_m"] is not None]
+
+
+def setting_of(frames, name):
+    """A float setting of the flight's configuration."""
+    place = sum({"u8": 1, "flag": 1}.get(kind, 4) for _, kind, _ in CONFIG_FIELDS[:[field for field, _, _ in CONFIG_FIELDS].index(name)])
+    bodies = [bytes_ for _, _, bytes_ in frames if len(bytes_) == 242]
+    return struct.unpack_from("<f", bodies[0], place)[0] if bodies else math.nan
+
+
+def draw_flight(frames, decisions):
+    """A flight as SVG: actions, requests, distance and margin over time, and the way flown over fence and areas."""
+    times, corners, areas = times_in(frames)[:len(decisions)], corners_in(frames), areas_of(frames)
+    if not drawable(corners):
+        raise Bad("a fence of 3 corners or more, each within ±10,000 m, can be drawn")
+    if not decisions or None in times:
+        raise Bad("there is no step to draw")
+    ends, place = time_scale(elapsed(times))
+    lanes, way = lanes_of(decisions), way_of(frames, decisions)
+    approach, marginal = setting_of(frames, "fence_approach_m"), setting_of(frames, "energy_marginal_wh")
+    band = 54
+    distance = band + 44 + 20 * len(lanes) + 30
+    margin = distance + 120 + 30
+    bottom = margin + 120
+    chart = draw_times(ends, place, band, bottom)
+    chart += draw_band(decisions, ends, place, band) + draw_lanes(lanes, ends, place, band + 44)
+    chart += draw_line([one["fence_dist_m"] for one in decisions], ends, place, distance, 120,
+                       f"distance to the fence{' or the nearest area' if areas else ''}, m (dashed: 0, and fence_approach_m, {number(approach)})", [0, approach])
+    chart += draw_line([one["energy.margin_wh"] for one in decisions], ends, place, margin, 120,
+                       f"energy margin of a return, Wh (dashed: 0, and energy_marginal_wh, {number(marginal)})", [0, marginal])
+    below = bottom + 44
+    chart += draw_map(corners, areas, way, PAGE_LEFT, below) + draw_legend(decisions, ends, areas, PAGE_LEFT + MAP_SIZE + 70, below + 12)
+    height = below + MAP_SIZE + 40
+    head = [f'<svg xmlns="http://www.w3.org/2000/svg" width="{PAGE_WIDTH}" height="{height}" viewBox="0 0 {PAGE_WIDTH} {height}" font-family="Helvetica, Arial, sans-serif">',
+            svg_rect(0, 0, PAGE_WIDTH, height, "white"), svg_text(PAGE_LEFT, 32, f"A flight of {len(decisions)} steps in {ends[-1] - ends[0]:.10g} s", 18)]
+    return "\n".join(head + chart + ["</svg>", ""])
+
+
+def decisions_in(stream):
+    """The Decisions of a stream, and the refusals among them with their places."""
+    decisions, refusals = [], []
+    for at, kind, bytes_ in split(stream):
+        body = Body(kind, bytes_)
+        if kind == REFUSAL:
+            refusals.append(f"byte {at}: {with_place(f'byte {at}', lambda: show_frame(body))}")
+        elif kind in DECISIONS:
+            decisions.append(with_place(f"byte {at}", lambda: read_decision(body)))
+        else:
+            raise Bad(f"byte {at}: {KINDS[kind]}, where a Decision is due (refusal 2)")
+    return decisions, refusals
+
+
+def draw_page(words, stepped_by):
+    """Draws the flight with its Decisions; bad input where they are not as many as its telemetries, after the page is written."""
+    frames, stream = frames_of(words[0]), read_frames(stepped_by)
+    decisions, refusals = with_place(named(stepped_by), lambda: decisions_in(stream))
+    times = times_in(frames)
+    page = with_place(named(words[0]), lambda: draw_flight(frames, decisions[:len(times)]))
+    write_bytes(page.encode(), words[1:])
+    with_place(named(stepped_by), lambda: compare(len(decisions), refusals, times, words[0]))
+
+
 # ---- merging
 
 # The readings of a telemetry body: name, place, bytes with the flag, places of floats within it. A stamp follows the flag.
@@ -1364,8 +1660,11 @@ def draw(path, points=()):
     return with_place(named(path), lambda: draw_frames(frames, points))
 
 
-def draw_command(words):
-    write_bytes(draw(words[0]), words[1:])
+def draw_command(words, decisions=None):
+    if decisions:
+        draw_page(words, decisions)
+    else:
+        write_bytes(draw(words[0]), words[1:])
 
 
 def point_of(line):
@@ -1435,7 +1734,7 @@ def count_command(words, as_csv=None):
 
 
 # Each command: its function, the fewest and the most words after its name, an option, the words that the option takes.
-COMMANDS = {"pack": (pack_command, 1, 2, None, 0), "show": (show_command, 0, 1, "--input", 1), "draw": (draw_command, 1, 2, None, 0),
+COMMANDS = {"pack": (pack_command, 1, 2, None, 0), "show": (show_command, 0, 1, "--input", 1), "draw": (draw_command, 1, 2, "--decisions", 1),
             "points": (points_command, 1, 2, None, 0), "map": (map_command, 3, 4, None, 0), "energy": (energy_command, 1, math.inf, None, 0),
             "merge": (merge_command, 2, 3, None, 0), "count": (count_command, 1, math.inf, "--csv", 0),
             "csv": (csv_command, 0, 1, "--input", 1), "telemetry": (telemetry_command, 1, 2, None, 0)}

@@ -1,6 +1,6 @@
 #!/usr/bin/env bash
 # tools/frames.py: packs the sample flight into the kept frames, shows the kept Decisions as the kept text, and says
-# what is wrong with bad input; a flight with a keep-out area too. It counts the landings of a kept day, writes Decisions as CSV and
+# what is wrong with bad input; a flight with a keep-out area too. It draws the kept pages, counts the landings of a kept day, writes Decisions as CSV and
 # packs a log. Where the crate decide is there, the samples' Decisions are made anew by it.
 set -u
 top=$(cd "$(dirname "${BASH_SOURCE[0]}")/../.." && pwd)
@@ -64,6 +64,20 @@ tools/frames.py draw - <"$build/star.frames" | cmp - "$build/star.svg" || fail "
 # Sent clockwise, it is held reversed: side 0 goes from the last corner to the one before it.
 grep -m 1 '<line ' "$build/star.svg" | grep -q 'x1="473.3" y1="473.3" x2="40.0" y2="213.3"' || fail "side 0 of a star is another"
 tools/frames.py draw samples/flight.frames | python3 -c 'import sys, xml.etree.ElementTree as x; x.parse(sys.stdin)' || fail "the sample's fence is not drawn"
+
+# A flight on a page: the sample's is kept; one step with nothing read can be drawn too.
+tools/frames.py draw samples/flight.json --decisions samples/decisions.frames | cmp - samples/flight.svg || fail "the sample's page is another"
+tools/frames.py draw samples/flight.frames "$build/flight.svg" --decisions - <samples/decisions.frames && cmp "$build/flight.svg" samples/flight.svg || fail "the sample's page from frames is another"
+python3 - <<'END' || fail "the sample's page does not show what it has to"
+import xml.etree.ElementTree as tree
+page = tree.parse("samples/flight.svg").getroot()
+texts = [one.text for one in page.iter("{http://www.w3.org/2000/svg}text")]
+wanted = ["A flight of 76 steps in 76 s", "GcsLinkLost", "EnergyRtlInfeasible", "may disarm", "Nominal", "Warn", "Hold", "ReturnToLaunch", "Land", "200 m", "N", "0", "1", "2", "3"]
+missing = [text for text in wanted if text not in texts]
+assert not missing, missing
+END
+head -c 95 samples/decisions.frames >"$build/first.frames"
+tools/frames.py draw "$build/one.json" --decisions "$build/first.frames" | python3 -c 'import sys, xml.etree.ElementTree as x; x.parse(sys.stdin)' || fail "a flight of one step is not drawn"
 
 # A file with a fence of 14 corners alone begins with the byte of a brace, and is frames all the same.
 python3 - "$build/fence14.json" <<'END'
@@ -175,6 +189,16 @@ lost show "$build/more.frames" 77 '77 Decisions, and samples/flight.json has 76 
 lost show "$build/refusal.frames" 77 'byte 7220: Refusal 4: a value out of range'
 lost csv "$build/ten.frames" 11 '10 Decisions, and samples/flight.json has 76 telemetries'
 lost csv "$build/refusal.frames" 77 'byte 7220: Refusal 4: a value out of range'
+drawn() { # FILE MESSAGE
+    tools/frames.py draw samples/flight.json "$build/page.svg" --decisions "$1" 2>"$build/err"
+    [ $? -eq 1 ] && tail -n 1 "$build/page.svg" | grep -qx '</svg>' && grep -qxF -- "frames.py: $1: $2" "$build/err" || fail "draw of $1: it says $(cat "$build/err") and not: $2"
+}
+drawn "$build/ten.frames" '10 Decisions, and samples/flight.json has 76 telemetries'
+drawn "$build/refusal.frames" 'byte 7220: Refusal 4: a value out of range'
+for words in "samples/flight.json --decisions samples/flight.frames" "samples/flight.json --decisions samples/log.csv" "samples/decisions.frames --decisions samples/decisions.frames"; do
+    tools/frames.py draw $words >"$build/out" 2>"$build/err"
+    [ $? -eq 1 ] && [ ! -s "$build/out" ] && grep -q '^frames.py: samples/' "$build/err" || fail "draw $words is no error: $(cat "$build/err")"
+done
 tools/frames.py csv "$build/refusal.frames" >/dev/null 2>&1
 [ $? -eq 1 ] || fail "a refusal is lost in the CSV"
 tools/frames.py show "$build/refusal.frames" >/dev/null || fail "without --input a refusal is a line as any other"
@@ -184,7 +208,7 @@ told() { # MESSAGE STATUS
     [ "$2" -eq 1 ] && [ "$(cat "$build/err")" = "frames.py: standard output: $1" ] || fail "with status $2 it says $(cat "$build/err") and not: $1"
 }
 for words in "pack samples/flight.json" "show samples/decisions.frames" "csv samples/decisions.frames" "count samples/decisions.frames" \
-    "telemetry samples/log.csv" "energy samples/energy.json" --help; do
+    "telemetry samples/log.csv" "energy samples/energy.json" "draw samples/flight.json --decisions samples/decisions.frames" --help; do
     tools/frames.py $words >&- 2>"$build/err"
     told 'it is closed' $?
     if [ -c /dev/full ]; then
@@ -313,12 +337,13 @@ tools/frames.py show "$build/none" >/dev/null 2>"$build/err"
 [ $? -eq 1 ] || fail "a file that is not there is no error"
 tools/frames.py pack samples/flight.json "$build/none/flight.frames" 2>"$build/err"
 [ $? -eq 1 ] && grep -q "none/flight.frames: No such file" "$build/err" || fail "a file that can't be written: it says $(cat "$build/err")"
-for words in "" none count "count --csv" "csv --input" "show --input" "show a --input b --input c" "telemetry" "pack a b c" "count --cvs a"; do
+for words in "" none count "count --csv" "csv --input" "show --input" "draw a --decisions" "draw --decisions a" "show a --input b --input c" "telemetry" "pack a b c" "count --cvs a"; do
     tools/frames.py $words >"$build/out" 2>/dev/null </dev/null
     [ $? -eq 2 ] && [ ! -s "$build/out" ] || fail "bad usage is no error: $words"
 done
 
 crane() { # DECIDE
+    "$1" <"$build/crane.frames" | tools/frames.py draw samples/crane.json --decisions - | cmp - samples/crane.svg || fail "the page of the crane by $1 is another"
     "$1" <"$build/crane.frames" | tools/frames.py show --input samples/crane.json | diff - samples/crane.txt || fail "$1 makes other Decisions of the crane"
 }
 if grep -q '^decide:' crates.txt; then
