@@ -1,6 +1,6 @@
 #!/usr/bin/env python3
 """Names, numbers, places, orders and defaults that stand in several files are the same in all of them: the crates' declarations and definitions,
-which the prover holds the code to; include/failsafe.h; tools/frames.py; examples/host.c. Prints what differs; exit status 1 where anything does.
+which the prover holds the code to; include/failsafe.h; tools/frames.py; examples/host.c. Definitions that docs/RULES.md cites are there. Prints what differs; exit status 1 where anything does.
 
   names.py FOLDER     the repository's folder
 """
@@ -185,7 +185,16 @@ same("the header's default configuration", (struct.pack("<HH", 244, 1) + b"".joi
 same("the header's default configuration, in words", [(name, json_like(value)) for name, value in defaults()], told)
 same("the header's default fence and tools/frames.py", frames.fence_frame({}).hex(), initialiser("FAILSAFE_DEFAULT_FENCE")[0].hex())
 
+cited = re.findall(r"((?:`\w+`,? ?)+): (\w+/specs/\w+\.antt)", text("docs/RULES.md"))
+for names_, file in cited:
+    for name in re.findall(r"`(\w+)`", names_):
+        if not re.search(r"^(?:\w+ )*pub (?:record )?%s\b" % name, text(f"crates/{file}"), re.M):
+            differs.append(f"docs/RULES.md: there is no {name} in crates/{file}")
+for name in re.findall(r"`(\w+_(?:ms|m|wh|pct|cell|rtl|max|wind|required))`", text("docs/RULES.md")):
+    if name not in dict(declared):
+        differs.append(f"docs/RULES.md: there is no setting {name}")
+
 for line in differs:
     print("differs:", line)
-print(f"{len(declared)} settings with their places and defaults, {len(header_places('telemetry')) + len(decision)} places of telemetry and Decision, {len(header)} refusals, {sum(map(len, (frames.ACTIONS, frames.REASONS, frames.FIXES, frames.LANDED)))} names of actions, reasons, fixes and landed states")
+print(f"{len(declared)} settings with their places and defaults, {len(header_places('telemetry')) + len(decision)} places of telemetry and Decision, {len(header)} refusals, {sum(map(len, (frames.ACTIONS, frames.REASONS, frames.FIXES, frames.LANDED)))} names of actions, reasons, fixes and landed states, {len(cited)} places of docs/RULES.md")
 sys.exit(1 if differs else 0)

@@ -25,7 +25,7 @@ fi
 
 rm -rf "$build/bent"
 mkdir -p "$build/bent"
-cp -r crates examples include tools "$build/bent/"
+cp -r crates docs examples include tools "$build/bent/"
 # A number that is changed in the copy's header, and what names.py has to say of it.
 seen() { # FROM TO WHAT
     sed "s/$1/$2/" include/failsafe.h >"$build/bent/include/failsafe.h"
