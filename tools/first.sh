@@ -21,11 +21,14 @@ began=$SECONDS
 if [ -z "${TMPDIR:-}" ] && [ -w /dev/shm ]; then
     export TMPDIR=/dev/shm # the prover's temporary files: quicker in memory
 fi
-rt check decide
+mkdir -p build
+if ! rt check decide 2>&1 | tee build/first.log | { grep --line-buffered '^rt: ' || true; }; then
+    echo "first.sh: something is not proved: build/first.log says what" >&2
+    exit 1
+fi
 echo "proved and built in $((SECONDS - began)) s"
 echo
 echo "The sample flight, by the program that was built (target/bin/decide):"
-mkdir -p build
 tools/frames.py pack samples/flight.json | target/bin/decide >build/first.frames
 tools/frames.py show build/first.frames --input samples/flight.json
 cmp build/first.frames samples/decisions.frames
