@@ -1543,7 +1543,7 @@ def plain(value, where):
     """A parsed value, with its objects as dicts: without null, and without a member that is given twice. An object is a
     tuple of its members before."""
     if value is None:
-        raise Bad(f"{where or 'flight'}: it is missing: null is no value, and what is absent is left out")
+        raise Bad(f"{where or 'flight'}: null is not a value here; leave out what is absent")
     if isinstance(value, list):
         return [plain(member, f"{where}[{k}]") for k, member in enumerate(value)]
     if not isinstance(value, tuple):
@@ -1757,6 +1757,13 @@ def command_of(words):
     return lambda: command(rest, *given)
 
 
+def usage(words):
+    """What is said of bad usage: the words, and how the command, or any, is called."""
+    lines = ["  " + line.strip().split("  ")[0] for line in __doc__.splitlines() if line.startswith("  frames.py ")]
+    own = [line for line in lines if line.split()[1] == (words[0] if words else "")]
+    return "\n".join([f"frames.py: bad usage: {' '.join(['frames.py', *words])}", *(own or lines), "frames.py --help shows all of it"])
+
+
 def complain(text):
     if sys.stderr is not None:
         print(text, file=sys.stderr)
@@ -1778,7 +1785,7 @@ def output_failed(error):
 def main(words):
     command = command_of(words)
     if command is None:
-        complain(__doc__)
+        complain(usage(words))
         return 2
     told = []
     for work in (command, flush):

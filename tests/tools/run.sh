@@ -253,11 +253,11 @@ done
 bad pack ' \n\t' 'bad: line 1: there is nothing but blanks'
 bad draw '\t[]' 'flight: an object is wanted'
 bad draw '\t{' 'line 1, column 3'
-bad pack 'null' 'flight: it is missing: null is no value'
-bad pack '{"fence": null}' 'bad: fence: it is missing: null is no value'
-bad pack '{"telemetry": [{"now_ms": 1}, {"now_ms": 1, "gps": null}]}' 'bad: telemetry[1].gps: it is missing: null is no value'
-bad pack '{"telemetry": [{"now_ms": 1, "gps": {"fix": "None", "sats": null}}]}' 'bad: telemetry[0].gps.sats: it is missing'
-bad pack '{"fence": {"corners": [[1, null]]}}' 'bad: fence.corners[0][1]: it is missing'
+bad pack 'null' 'flight: null is not a value here'
+bad pack '{"fence": null}' 'bad: fence: null is not a value here'
+bad pack '{"telemetry": [{"now_ms": 1}, {"now_ms": 1, "gps": null}]}' 'bad: telemetry[1].gps: null is not a value here'
+bad pack '{"telemetry": [{"now_ms": 1, "gps": {"fix": "None", "sats": null}}]}' 'bad: telemetry[0].gps.sats: null is not a value here'
+bad pack '{"fence": {"corners": [[1, null]]}}' 'bad: fence.corners[0][1]: null is not a value here'
 bad pack '{"telemetry": [{"now_ms": 1, "armed": true, "armed": true}]}' 'bad: telemetry[0].armed: it is given twice'
 bad pack '{"telemetry": [], "telemetry": []}' 'bad: telemetry: it is given twice'
 bad energy '{}' 'bad: energy.position_north_mm: it is missing'
@@ -338,8 +338,8 @@ tools/frames.py show "$build/none" >/dev/null 2>"$build/err"
 tools/frames.py pack samples/flight.json "$build/none/flight.frames" 2>"$build/err"
 [ $? -eq 1 ] && grep -q "none/flight.frames: No such file" "$build/err" || fail "a file that can't be written: it says $(cat "$build/err")"
 for words in "" none count "count --csv" "csv --input" "show --input" "draw a --decisions" "draw --decisions a" "show a --input b --input c" "telemetry" "pack a b c" "count --cvs a"; do
-    tools/frames.py $words >"$build/out" 2>/dev/null </dev/null
-    [ $? -eq 2 ] && [ ! -s "$build/out" ] || fail "bad usage is no error: $words"
+    tools/frames.py $words >"$build/out" 2>"$build/err" </dev/null
+    [ $? -eq 2 ] && [ ! -s "$build/out" ] && head -n 1 "$build/err" | grep -qxF "frames.py: bad usage: frames.py${words:+ $words}" || fail "bad usage is no error: $words"
 done
 
 crane() { # DECIDE
@@ -350,6 +350,8 @@ if grep -q '^decide:' crates.txt; then
     rt check decide >"$build/check.out" 2>&1 || { cat "$build/check.out" && exit 1; }
     target/bin/decide <samples/flight.frames | cmp - samples/decisions.frames || fail "decide makes other Decisions of the sample"
     crane target/bin/decide
+    tools/first.sh >"$build/first" || fail "tools/first.sh fails"
+    [ "$(grep -cFxf samples/decisions.txt "$build/first")" -eq $((2 * $(wc -l <samples/decisions.txt))) ] || fail "tools/first.sh does not show the sample twice"
     { head -c 291 "$build/absent.frames" && tools/frames.py telemetry samples/log.csv; } >"$build/log.input"
     target/bin/decide <"$build/log.input" | cmp - samples/day/log.frames || fail "decide makes other Decisions of the log"
     [ "$(target/bin/decide <"$build/star.frames" | tools/frames.py show)" = "Refusal 33: NotOnceRound" ] || fail "decide takes a star as kind 8"
