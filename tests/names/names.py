@@ -15,9 +15,16 @@ sys.dont_write_bytecode = True
 differs = []
 
 
+def unlike(these, others):
+    """What of these is not so in the others."""
+    if isinstance(these, dict):
+        return {name: value for name, value in these.items() if others.get(name) != value}
+    return [one for one in these if one not in others] if isinstance(these, list) else these
+
+
 def same(what, first, second):
     if first != second:
-        differs.append(f"{what}: {first} and {second}")
+        differs.append(f"{what}: {unlike(first, second) or first} and {unlike(second, first) or second}")
 
 
 def text(name):
@@ -190,6 +197,10 @@ for names_, file in cited:
     for name in re.findall(r"`(\w+)`", names_):
         if not re.search(r"^(?:\w+ )*pub (?:record )?%s\b" % name, text(f"crates/{file}"), re.M):
             differs.append(f"docs/RULES.md: there is no {name} in crates/{file}")
+code = "\n".join(path.read_text(encoding="utf-8") for path in sorted(TOP.glob("crates/*/src/*.rt")))
+for name in re.findall(r"`(?:\w+::)?(\w+)`", "\n".join(line for line in text("docs/TOUR.md").splitlines() if re.match(r"\| \d+ \|", line))):
+    if not re.search(r"\b(?:fn|struct|enum) %s\b" % name, code):
+        differs.append(f"docs/TOUR.md: there is no {name} in the crates")
 for name in re.findall(r"`(\w+_(?:ms|m|wh|pct|cell|rtl|max|wind|required))`", text("docs/RULES.md")):
     if name not in dict(declared):
         differs.append(f"docs/RULES.md: there is no setting {name}")
