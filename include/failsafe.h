@@ -9,7 +9,7 @@
  *   1. failsafe_check(config, fence): 0, or do not fly. FAILSAFE_DEFAULT_CONFIG and FAILSAFE_DEFAULT_FENCE are ready frames.
  *   2. failsafe_fresh(state), once.
  *   3. failsafe_step(..) at the host's own rate, also on the ground, with `armed` false until the motors are armed. Such a step
- *      is a confirmed disarm: it answers Nominal and starts all timers and latches anew.
+ *      is a confirmed disarm: it answers Nominal, and timers, latches and the action shown start anew.
  *   4. Arm once position, ekf_ok, heartbeat, rc_ok and a battery reading have fresh stamps.
  *
  * A first step with nothing read yet answers Land for PositionInvalid: link, controller and battery are missing, which asks
@@ -27,17 +27,19 @@
  *   - Floats are rounded to nearest, and numbers too small to be normal are kept: no flush-to-zero, no denormals-are-zero (MXCSR
  *     as a process starts with it). In another mode the bytes of an answer differ.
  *   - From outside it needs memcpy and memset, and nothing else.
- *   - Stack of a call, the most that tests/stack measures on the sample flight beside eight areas, rounded up to a multiple of 64
- *     (a build for another processor differs):
+ *   - No two buffers of a call overlap, and nothing else writes to them during the call: the library can't see either. A pointer
+ *     may be null where its length is 0.
+ *   - It is reentrant: there are no globals, and threads may call it at once on buffers of their own.
+ *   - Each state belongs to one flight: its calls come one after the other, with one configuration. Fence and areas may change
+ *     between steps.
+ *
+ * Stack of a call on x86-64, the most that tests/stack measures on the sample flight beside eight areas, rounded up to a multiple
+ * of 64 (a build for another processor differs):
  *   failsafe_step        2752 bytes
  *   failsafe_step_side   2752 bytes
  *   failsafe_step_areas  3328 bytes
  *   failsafe_add_area    960 bytes
  *   failsafe_remove_area 896 bytes
- *   - No two buffers of a call overlap, and nothing else writes to them during the call: the library can't see either. A pointer
- *     may be null where its length is 0.
- *   - It is reentrant: there are no globals, and threads may call it at once on buffers of their own.
- *   - Each state belongs to one flight, and its calls come one after the other.
  *
  * Frames
  *
@@ -84,7 +86,9 @@
  *   31        an area's number is 0, is held already, is not above the one before it in a frame of kind 13, or is to be
  *             removed and is not held
  *   32        home, (0, 0), is inside an area; on its side it is not
+ *   36, 37    a number outside its limits, a speed of 0 (failsafe_whole_energy)
  *   38        the two radios' now_ms differ (failsafe_merge)
+ *   39        the fence in its one form would itself be declined (failsafe_spell_fence)
  *
  * The first refusal in this order is answered: configuration frame, fence frame, fence rules, configuration
  * rules, areas frame, areas one by one, state, telemetry, output; within a frame 1, a length under 2, 2, 3, 4. Of an area 10 to
@@ -217,8 +221,8 @@ enum failsafe_refusal {
 /* Places of the settings in a configuration's frame, each with its type, its unit and what it is for. A duration has no limits but
  * those told here. An age is compared so that its limit still counts.
  *
- * (*) This setting moves a timer of the state and changes no Decision, as long as what its line asks is kept: a request ends at the first
- * step where its own test is false. A negative clear distance, or a clear margin below energy_marginal_wh, would end a request early. */
+ * (*) Changes no Decision, as long as what its line asks is kept: a request ends at the first step where its own test is false. It moves
+ * a timer of the state alone. A negative clear distance, or energy_marginal_clear_wh below energy_marginal_wh, would end a request early. */
 enum failsafe_config_place {
     FAILSAFE_CONFIG_CELL_COUNT = 4,                     /* u8, battery cells in series, 1 to 14 */
     FAILSAFE_CONFIG_USABLE_CAPACITY_WH = 5,             /* f32, Wh, above 0: the energy of a full battery */
@@ -236,40 +240,40 @@ enum failsafe_config_place {
     FAILSAFE_CONFIG_RC_LOST_SET_MS = 50,                /* u32, ms (*): RcLost asks from the first step without the controller */
     FAILSAFE_CONFIG_RC_LOST_CLEAR_MS = 54,              /* u32, ms (*): and ends at the first step with it */
     FAILSAFE_CONFIG_GPS_DEGRADED_SET_MS = 58,           /* u32, ms: how long gps must be poor before GpsDegraded asks for Warn */
-    FAILSAFE_CONFIG_GPS_DEGRADED_CLEAR_MS = 62,         /* u32, ms (*) */
+    FAILSAFE_CONFIG_GPS_DEGRADED_CLEAR_MS = 62,         /* u32, ms (*): how long gps must be good again, 10 satellites or more and hdop 2.0 or less */
     FAILSAFE_CONFIG_GPS_LOST_SET_MS = 66,               /* u32, ms: how long without a 3D fix before GpsLost asks for Land */
-    FAILSAFE_CONFIG_GPS_LOST_CLEAR_MS = 70,             /* u32, ms (*) */
+    FAILSAFE_CONFIG_GPS_LOST_CLEAR_MS = 70,             /* u32, ms (*): how long with a 3D fix again */
     FAILSAFE_CONFIG_EKF_UNHEALTHY_SET_MS = 74,          /* u32, ms: how long without a good ekf_ok before EkfUnhealthy asks for Land */
-    FAILSAFE_CONFIG_EKF_UNHEALTHY_CLEAR_MS = 78,        /* u32, ms (*) */
+    FAILSAFE_CONFIG_EKF_UNHEALTHY_CLEAR_MS = 78,        /* u32, ms (*): how long with a good ekf_ok again */
     FAILSAFE_CONFIG_FENCE_APPROACH_M = 82,              /* f32, m: FenceApproach asks for Warn from 0 to under this distance */
-    FAILSAFE_CONFIG_FENCE_APPROACH_CLEAR_M = 86,        /* f32, m: no rule reads it */
+    FAILSAFE_CONFIG_FENCE_APPROACH_CLEAR_M = 86,        /* f32, m: the distance at which FenceApproach was to end; no rule reads it */
     FAILSAFE_CONFIG_FENCE_BREACH_SET_MS = 90,           /* u32, ms: how long outside before FenceBreach asks for ReturnToLaunch */
-    FAILSAFE_CONFIG_FENCE_BREACH_CLEAR_M = 94,          /* f32, m (*): keep it at 0 or above */
-    FAILSAFE_CONFIG_FENCE_BREACH_CLEAR_MS = 98,         /* u32, ms (*) */
-    FAILSAFE_CONFIG_ALT_MAX_CLEAR_M = 102,              /* f32, m (*): keep it at 0 or above */
+    FAILSAFE_CONFIG_FENCE_BREACH_CLEAR_M = 94,          /* f32, m (*): so far inside counts as back; keep it at 0 or above */
+    FAILSAFE_CONFIG_FENCE_BREACH_CLEAR_MS = 98,         /* u32, ms (*): how long so */
+    FAILSAFE_CONFIG_ALT_MAX_CLEAR_M = 102,              /* f32, m (*): so far below the upper altitude counts as back; keep it at 0 or above */
     FAILSAFE_CONFIG_ALT_MAX_SET_MS = 106,               /* u32, ms: how long above the fence before AltitudeMax asks for ReturnToLaunch */
-    FAILSAFE_CONFIG_ALT_MAX_CLEAR_HOLD_MS = 110,        /* u32, ms (*) */
+    FAILSAFE_CONFIG_ALT_MAX_CLEAR_HOLD_MS = 110,        /* u32, ms (*): how long so */
     FAILSAFE_CONFIG_ALT_MIN_HOME_RADIUS_M = 114,        /* f32, m from home, within which AltitudeMin is silent */
     FAILSAFE_CONFIG_ALT_MIN_SET_MS = 118,               /* u32, ms: how long too low before AltitudeMin asks for Warn */
-    FAILSAFE_CONFIG_ALT_MIN_CLEAR_M = 122,              /* f32, m (*): keep it at 0 or above */
-    FAILSAFE_CONFIG_ALT_MIN_CLEAR_MS = 126,             /* u32, ms (*) */
+    FAILSAFE_CONFIG_ALT_MIN_CLEAR_M = 122,              /* f32, m (*): so far above the lower altitude counts as back; keep it at 0 or above */
+    FAILSAFE_CONFIG_ALT_MIN_CLEAR_MS = 126,             /* u32, ms (*): how long so */
     FAILSAFE_CONFIG_STALE_BATTERY_CLEAR_MS = 130,       /* u32, ms (*): StaleBattery ends at the first fresh reading */
-    FAILSAFE_CONFIG_BATTERY_WARN_PCT = 134,             /* f32, %: BatteryWarn asks for Warn below it; above battery_low_pct */
-    FAILSAFE_CONFIG_BATTERY_WARN_CLEAR_PCT = 138,       /* f32, % (*): above battery_warn_pct */
+    FAILSAFE_CONFIG_BATTERY_WARN_PCT = 134,             /* f32, %: BatteryWarn asks for Warn at a charge below it; it is above battery_low_pct */
+    FAILSAFE_CONFIG_BATTERY_WARN_CLEAR_PCT = 138,       /* f32, % (*): a charge above it counts as recovered; it is above battery_warn_pct */
     FAILSAFE_CONFIG_BATTERY_WARN_SET_MS = 142,          /* u32, ms: how long below before it asks */
-    FAILSAFE_CONFIG_BATTERY_WARN_CLEAR_MS = 146,        /* u32, ms (*) */
-    FAILSAFE_CONFIG_BATTERY_LOW_PCT = 150,              /* f32, %: BatteryLow asks for ReturnToLaunch below it; above battery_critical_pct */
-    FAILSAFE_CONFIG_BATTERY_LOW_CLEAR_PCT = 154,        /* f32, % (*): above battery_low_pct */
+    FAILSAFE_CONFIG_BATTERY_WARN_CLEAR_MS = 146,        /* u32, ms (*): how long so */
+    FAILSAFE_CONFIG_BATTERY_LOW_PCT = 150,              /* f32, %: BatteryLow asks for ReturnToLaunch at a charge below it; it is above battery_critical_pct */
+    FAILSAFE_CONFIG_BATTERY_LOW_CLEAR_PCT = 154,        /* f32, % (*): a charge above it counts as recovered; it is above battery_low_pct */
     FAILSAFE_CONFIG_BATTERY_LOW_SET_MS = 158,           /* u32, ms: how long below before it asks */
-    FAILSAFE_CONFIG_BATTERY_LOW_CLEAR_MS = 162,         /* u32, ms (*) */
-    FAILSAFE_CONFIG_BATTERY_CRITICAL_PCT = 166,         /* f32, %: BatteryCritical asks for Land below it, and is latched */
-    FAILSAFE_CONFIG_BATTERY_CRITICAL_V_PER_CELL = 170,  /* f32, V: or below this voltage times cell_count */
+    FAILSAFE_CONFIG_BATTERY_LOW_CLEAR_MS = 162,         /* u32, ms (*): how long so */
+    FAILSAFE_CONFIG_BATTERY_CRITICAL_PCT = 166,         /* f32, %: BatteryCritical asks for Land at a charge below it, and is latched */
+    FAILSAFE_CONFIG_BATTERY_CRITICAL_V_PER_CELL = 170,  /* f32, V: or at a voltage below it times cell_count, where there is a charge too */
     FAILSAFE_CONFIG_BATTERY_CRITICAL_SET_MS = 174,      /* u32, ms: how long below before it asks */
     FAILSAFE_CONFIG_ENERGY_MARGINAL_WH = 178,           /* f32, Wh: EnergyRtlMarginal asks for ReturnToLaunch at a margin from 0 to under this */
-    FAILSAFE_CONFIG_ENERGY_MARGINAL_CLEAR_WH = 182,     /* f32, Wh (*): keep it at energy_marginal_wh or above */
+    FAILSAFE_CONFIG_ENERGY_MARGINAL_CLEAR_WH = 182,     /* f32, Wh (*): a margin above it counts as recovered; keep it at energy_marginal_wh or above */
     FAILSAFE_CONFIG_ENERGY_MARGINAL_SET_MS = 186,       /* u32, ms: how long so before it asks */
-    FAILSAFE_CONFIG_ENERGY_MARGINAL_CLEAR_MS = 190,     /* u32, ms (*) */
-    FAILSAFE_CONFIG_ENERGY_INFEASIBLE_SET_MS = 194,     /* u32, ms, 1 to 600,000: how long below 0 before EnergyRtlInfeasible asks for Land; latched */
+    FAILSAFE_CONFIG_ENERGY_MARGINAL_CLEAR_MS = 190,     /* u32, ms (*): how long so */
+    FAILSAFE_CONFIG_ENERGY_INFEASIBLE_SET_MS = 194,     /* u32, ms, 1 to 600,000: how long at a margin below 0 before EnergyRtlInfeasible asks for Land; latched */
     FAILSAFE_CONFIG_INVALID_INPUT_CLEAR_MS = 198,       /* u32, ms: how long InvalidInput stays after the last reading out of bounds */
     FAILSAFE_CONFIG_DISARM_HOLD_MS = 202,               /* u32, ms, 1 to 600,000: how long on the ground before disarm_eligible */
     FAILSAFE_CONFIG_V_CRUISE = 206,                     /* f32, m/s, above 0: speed of the way home */
@@ -281,7 +285,7 @@ enum failsafe_config_place {
     FAILSAFE_CONFIG_P_DESC = 230,                       /* f32, W, 0 or more: power of it */
     FAILSAFE_CONFIG_H_RTL = 234,                        /* f32, m above home, within the fence: altitude of the way home */
     FAILSAFE_CONFIG_RESERVE_WH = 238,                   /* f32, Wh, 0 or more: left when the aircraft is home */
-    FAILSAFE_CONFIG_V_MAX = 242                         /* f32, m/s: the fastest flight; a position farther from the last than 2 * v_max * seconds + 5 m is refused */
+    FAILSAFE_CONFIG_V_MAX = 242                         /* f32, m/s: the fastest flight; a position that jumps by more than 2 * v_max * seconds + 5 m is refused */
 };
 
 /* Places in a telemetry frame. A reading that may be absent begins with a flag, 0 or 1, and where that is 0 all its bytes are 0. A

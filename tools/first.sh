@@ -18,7 +18,7 @@ echo
 need rt "it is the command of the Rattle kit, which proves and builds"
 echo "Now decide is proved and built, a line for each crate. From nothing it takes some minutes."
 began=$SECONDS
-if [ -z "${TMPDIR:-}" ] && [ -w /dev/shm ]; then
+if [ -z "${TMPDIR:-}" ] && [ -w /dev/shm ] && [ "$(df --output=avail /dev/shm | tail -n 1)" -gt 4000000 ]; then
     export TMPDIR=/dev/shm # the prover's temporary files: quicker in memory
 fi
 mkdir -p build
