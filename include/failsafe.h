@@ -25,7 +25,7 @@
  *
  *   - x86-64, little-endian, and the C calling convention of Linux.
  *   - Floats are rounded to nearest, and numbers too small to be normal are kept: no flush-to-zero, no denormals-are-zero (MXCSR
- *     as a process starts with it). In another mode the bytes of an answer differ.
+ *     as a process starts with it). In another mode the bytes of an answer may differ.
  *   - From outside it needs memcpy and memset, and nothing else.
  *   - No two buffers of a call overlap, and nothing else writes to them during the call: the library can't see either. A pointer
  *     may be null where its length is 0.

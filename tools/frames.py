@@ -1107,6 +1107,8 @@ def draw_fence(body, points=(), areas=()):
 PAGE_WIDTH, PAGE_LEFT, PAGE_RIGHT, MAP_SIZE = 1120, 168, 1088, 460
 ACTION_COLOURS = {"Nominal": "#4f9d69", "Warn": "#f2c14e", "Hold": "#5b8fd6", "ReturnToLaunch": "#e07b39", "Land": "#b8322f"}
 INK, FAINT, GRID = "#222222", "#666666", "#e2e2e2"
+LEGEND = ["A request has the colour of the action it asks for.", "", "On the map:", "cross: home", "ring: first position", "dot: last position",
+          "way flown: the colour of the action shown, drawn a little to", "the right of the direction of flight", "numbers outside the fence: its sides"]
 
 
 def svg_text(x, y, text, size=12, anchor="start", fill=INK, more=""):
@@ -1318,14 +1320,13 @@ def draw_map(corners, areas, way, left, top):
 
 def draw_legend(decisions, ends, areas, left, top):
     """The colours with the steps and seconds of each action, and the marks of the map."""
-    lines = [svg_text(left, top + 4, "action", 12, "start", FAINT), svg_text(left + 210, top + 4, "steps", 12, "end", FAINT), svg_text(left + 290, top + 4, "seconds", 12, "end", FAINT)]
+    lines = [svg_text(left + x, top + 4, name, 12, anchor, FAINT) for x, name, anchor in ((0, "action", "start"), (210, "steps", "end"), (290, "seconds", "end"))]
     for k, action in enumerate(ACTIONS):
         y, own = top + 26 + 22 * k, [at for at, one in enumerate(decisions) if one["action"] == action]
         lines += [svg_rect(left, y - 12, 18, 15, ACTION_COLOURS[action]), svg_text(left + 26, y, action, 13), svg_text(left + 210, y, len(own), 13, "end"),
                   svg_text(left + 290, y, f"{sum(ends[at + 1] - ends[at] for at in own):.10g}", 13, "end")]
     y = top + 26 + 22 * len(ACTIONS) + 16
-    told = ["A request has the colour of the action it asks for.", "", "On the map:", "cross: home", "ring: first position", "dot: last position",
-            "way flown: the colour of the action shown, drawn a little to", "the right of the direction of flight", "numbers outside the fence: its sides"] + ["red: keep-out areas held at some time"] * bool(areas)
+    told = LEGEND + ["red: keep-out areas held at some time"] * bool(areas)
     return lines + [svg_text(left, y + 19 * k, line, 12, "start", FAINT) for k, line in enumerate(told)]
 
 
