@@ -7,7 +7,7 @@
  * At boot
  *
  *   1. failsafe_check(config, fence): 0, or do not fly. FAILSAFE_DEFAULT_CONFIG and FAILSAFE_DEFAULT_FENCE are ready frames.
- *   2. failsafe_fresh(state), once.
+ *   2. failsafe_fresh(state), once; failsafe_fresh_raised(state) where the configuration is of kind 11.
  *   3. failsafe_step(..) at the host's own rate, also on the ground, with `armed` false until the motors are armed. Such a step
  *      is a confirmed disarm: it answers Nominal, and timers, latches and the action shown start anew.
  *   4. Arm once position, ekf_ok, heartbeat, rc_ok and a battery reading have fresh stamps.
@@ -47,12 +47,13 @@
  * and the body; all little-endian. Body fields stand in the Rust's declared order.
  *
  *   buffer         kind   bytes               content
- *   config         1      246                 Config
+ *   config         1, 11  246                 Config; beside a kind 11 eight of the requests stay until they are cleared
  *   fence          2, 8   13 + 8 * corners    corner count, min altitude, max altitude, corners north, east
  *   telemetry      3      106                 Telemetry
  *   output         4      95 or more          Decision
  *                  6      96 or more          Decision with the side of the fence: failsafe_step_side, failsafe_step_areas
  *   state          5      186                 the supervisor's state
+ *                  12     194                 the same beside a configuration of kind 11, with eight bools more: what is raised
  *   area           7      6 + 8 * corners     a keep-out area: number, corner count, corners north, east
  *   areas          13     5 to 1045, or none  count, then the bodies (number, corner count, corners) of up to eight areas, in
  *                                             order of number
@@ -75,7 +76,7 @@
  *   4         a flag or enum byte out of range; an absent value not zero; in state also a link stage above 3,
  *             a row of faults above 2, a number of the stored position or velocity that is not finite
  *   5         output under 95 bytes (failsafe_step_side, failsafe_step_areas: under 96; failsafe_fresh: state under 186;
- *             failsafe_add_area, failsafe_remove_area: output under the frame to be written)
+ *             failsafe_fresh_raised: under 194; failsafe_add_area, failsafe_remove_area: output under the frame to be written)
  *   10 to 18  the fence: too few corners, too many, not finite, out of envelope, duplicate, collinear, not
  *             convex, area too small, bad altitudes
  *   33        the fence, of kind 8 alone, after 16 and before 17: going round the sides, the sign of the north
@@ -107,8 +108,8 @@ extern "C" {
 /* Version of this header and the library of the same commit: the first number grows where a frame, a number or an entry's answer changes,
  * the second where something is added. No entry answers it. */
 #define FAILSAFE_VERSION_MAJOR 1
-#define FAILSAFE_VERSION_MINOR 0
-#define FAILSAFE_VERSION "1.0"
+#define FAILSAFE_VERSION_MINOR 1
+#define FAILSAFE_VERSION "1.1"
 
 /* Bytes of frames. */
 #define FAILSAFE_CONFIG_BYTES 246
@@ -117,6 +118,7 @@ extern "C" {
 #define FAILSAFE_DECISION_BYTES 95
 #define FAILSAFE_SIDE_BYTES 96
 #define FAILSAFE_STATE_BYTES 186
+#define FAILSAFE_RAISED_STATE_BYTES 194 /* beside a configuration of kind 11 */
 #define FAILSAFE_AREA_BYTES(corners) (6 + 8 * (corners))
 #define FAILSAFE_AREAS_MOST 1045 /* eight areas of 16 corners */
 
@@ -130,6 +132,8 @@ enum failsafe_kind {
     FAILSAFE_KIND_SIDE = 6,
     FAILSAFE_KIND_AREA = 7,
     FAILSAFE_KIND_FENCE_ONCE_ROUND = 8,
+    FAILSAFE_KIND_CONFIG_KEEPING = 11, /* Config: raised requests are kept until they are cleared */
+    FAILSAFE_KIND_RAISED_STATE = 12,
     FAILSAFE_KIND_AREAS = 13,
     FAILSAFE_KIND_REFUSAL = 255
 };
@@ -221,8 +225,9 @@ enum failsafe_refusal {
 /* Places of the settings in a configuration's frame, each with its type, its unit and what it is for. A duration has no limits but
  * those told here. An age is compared so that its limit still counts.
  *
- * (*) Changes no Decision, as long as what its line asks is kept: a request ends at the first step where its own test is false. It moves
- * a timer of the state alone. A negative clear distance, or energy_marginal_clear_wh below energy_marginal_wh, would end a request early. */
+ * (*) In a frame of kind 1 it changes no Decision, as long as what its line asks is kept: a request ends at the first step where its own test is
+ * false. It moves a timer of the state alone. In one of kind 11 the eight requests of failsafe_fresh_raised stay until their clear time has
+ * passed, and RcLost waits for rc_lost_set_ms. A negative clear distance, or energy_marginal_clear_wh below energy_marginal_wh, would end a request early. */
 enum failsafe_config_place {
     FAILSAFE_CONFIG_CELL_COUNT = 4,                     /* u8, battery cells in series, 1 to 14 */
     FAILSAFE_CONFIG_USABLE_CAPACITY_WH = 5,             /* f32, Wh, above 0: the energy of a full battery */
@@ -517,6 +522,13 @@ uint32_t failsafe_check(const uint8_t *config, size_t config_len,
 /* A fresh state in the first 186 bytes of state; later bytes stay. The steps take a state slice of
  * exactly 186 bytes. */
 uint32_t failsafe_fresh(uint8_t *state, size_t state_len);
+
+/* The same for a flight whose configuration is of kind 11: a fresh state of kind 12 in the first 194 bytes, and the steps take a slice
+ * of exactly 194. Under such a configuration GpsDegraded, GpsLost, EkfUnhealthy, FenceBreach, AltitudeMin, BatteryWarn, BatteryLow and
+ * EnergyRtlMarginal, once raised, stay until their clear time has passed, so that they don't come and go within a second; a confirmed
+ * disarm drops them all. RcLost waits for rc_lost_set_ms. All else is as under kind 1. A state of kind 5 beside a configuration of
+ * kind 11, or of kind 12 beside one of kind 1, is refused with 2. */
+uint32_t failsafe_fresh_raised(uint8_t *state, size_t state_len);
 
 /* A test load that everyone can make: the next telemetry frame of a trial flight in the first 106 bytes of
  * output; later bytes stay. The generator is 9 bytes: x (4), now_ms (4), and a byte that is 0 before the

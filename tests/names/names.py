@@ -13,6 +13,8 @@ from pathlib import Path
 TOP = Path(sys.argv[1])
 sys.dont_write_bytecode = True
 differs = []
+# Config's one field that is no setting: whether the frame is of kind 11.
+KIND = "keeps_raised"
 
 
 def unlike(these, others):
@@ -60,6 +62,8 @@ def defaults():
     body = text("crates/config/specs/Default.antt").split("defaultConfig =", 1)[1].split("}", 1)[0]
     found = []
     for name, value in re.findall(r"«(\w+)» = ([^;]+);", body):
+        if name == KIND:
+            continue
         decimal = re.fullmatch(r"decimal (\d+) (\d+)", value)
         if decimal:
             found.append((name, int(decimal[1]) / int(decimal[2])))
@@ -173,11 +177,11 @@ same("kinds, header and tools/frames.py", sorted(enumerators("kind").values()), 
 
 fields = re.search(r"pub struct Config \{(.*?)\n\}", text("crates/config/src/lib.rt"), re.S).group(1)
 types = {"bool": "flag"}
-declared = [(name, types.get(kind, kind)) for name, kind in re.findall(r"pub (\w+): (\w+)", fields)]
+declared = [(name, types.get(kind, kind)) for name, kind in re.findall(r"pub (\w+): (\w+)", fields) if name != KIND]
 same("settings, crates/config and tools/frames.py", declared, [(name, kind) for name, kind, _ in frames.CONFIG_FIELDS])
 same("defaults, crates/config and tools/frames.py", defaults(), [(name, value) for name, _, value in frames.CONFIG_FIELDS])
 
-config = fields_at(definition("frame_config", "configAt", "s"))
+config = fields_at(definition("frame_config", "configAt", "s keeps"))
 same("places of settings, crates/frame_config and the header", {name: at for name, _, at in config}, header_places("config"))
 same("types of settings, crates/config and the header", [(name, {"flag": "bool"}.get(kind, kind)) for name, kind in declared], list(setting_types().items()))
 same("places of telemetry, crates/frame_telemetry and the header",
