@@ -2,12 +2,13 @@
 // that keeps raised requests, has eight bytes more: `keeps` says which it is.
 ghost use mathlib.Core.Path.{_≡_};
 ghost use Prim.Native.Nat.{_+_, _<_, _≤_};
+ghost use lib.Dec.{eqb};
 ghost use lib.ListN.{length};
 ghost use lib.Seq.{sets};
 ghost use Rattle.triggers.specs.Update.{noneRaised};
 ghost use Rattle.supervisor.specs.Rules.{finiteVec, finiteStored};
 ghost use Rattle.supervisor.specs.Step.{freshSupervisor};
-ghost use Rattle.wire.specs.Frame.{roomFault, frameWritten};
+ghost use Rattle.wire.specs.Frame.{frameFault, roomFault, frameWritten};
 ghost use Rattle.wire.specs.Laid.{laid, Blank};
 ghost use Rattle.options.specs.Options.{validOption};
 ghost use Rattle.options.specs.Position.{optionPositionAt};
@@ -242,13 +243,21 @@ fn raised_valid(s: &[u8], keeps: bool) -> bool
     }
 }
 
+// Whether the head earns no refusal. The bytes that both kinds have are counted first: then the compiler tests no field for its place.
+fn state_fits(s: &[u8], keeps: bool) -> bool
+    ensures { λ r. ⌜ r ≡ eqb (frameFault (stateKind keeps) (stateLength keeps) (now (s .entry))) 0 ⌝ }
+{
+    if s.len() < 186 {
+        return false;
+    }
+    wire::frame_fits(s, state_kind(keeps), state_length(keeps))
+}
+
 // The state of a whole frame, or the refusal number: 1 to 3 for the head, 4 for a field out of range.
 pub fn read_state(s: &[u8], keeps: bool) -> StateRead
     ensures { λ r. ⌜ r ≡ readState keeps (now (s .entry)) ⌝ }
 {
-    let kind = state_kind(keeps);
-    let len = state_length(keeps);
-    if wire::frame_fits(s, kind, len) {
+    if state_fits(s, keeps) {
         let stored = options::option_position_at(s, 145);
         let valid = state_valid(s, stored);
         let bools = raised_valid(s, keeps);
@@ -259,7 +268,7 @@ pub fn read_state(s: &[u8], keeps: bool) -> StateRead
             StateRead::Refused(4)
         }
     } else {
-        StateRead::Refused(wire::frame_fault(s, kind, len))
+        StateRead::Refused(wire::frame_fault(s, state_kind(keeps), state_length(keeps)))
     }
 }
 
@@ -429,6 +438,9 @@ fn put_state(s: &mut [u8], keeps: bool, x: Supervisor)
 pub fn write_state(s: &mut [u8], keeps: bool, x: Supervisor) -> u16
     ensures { λ r. ⌜ (r ≡ roomFault (stateFrame keeps x) (now (s .entry))) × (now (s .exit) ≡ frameWritten (stateFrame keeps x) (now (s .entry))) ⌝ }
 {
+    if s.len() < 186 {
+        return 5;
+    }
     if s.len() < state_size(keeps) {
         return 5;
     }
