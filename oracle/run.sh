@@ -4,8 +4,11 @@
 # With --path it only builds the program, and prints where it is.
 #   oracle/run.sh --test PACKAGE
 # runs a package's own tests.
+#   oracle/run.sh --source
+# prints where the Rust's source is, and builds nothing.
 # CUTHRANSI_RUST_SRC names the folder that has crates/failsafe-core/src (default: ../shared/docs/src,
-# from the top of the repository). Exit status 77: the sources or cargo are not here.
+# from the top of the repository). Its files are the ten of oracle/rust.sha256: any other is an error.
+# Exit status 77: the sources or cargo are not here.
 set -eu
 top=$(cd "$(dirname "$0")/.." && pwd -P)
 here=$top/oracle
@@ -20,6 +23,33 @@ if ! command -v cargo >/dev/null 2>&1; then
     exit 77
 fi
 src=$(cd "$src" && pwd -P)
+
+# The judge is pinned. Prints each file of the Rust that is not the one of the list, or that the list has not.
+strangers() {
+    local sum name file
+    while read -r sum name; do
+        if [ ! -f "$src/$name" ]; then
+            echo "$name is missing"
+        elif [ "$(sha256sum <"$src/$name")" != "$sum  -" ]; then
+            echo "$name is another file"
+        fi
+    done <"$here/rust.sha256"
+    for file in "$src"/*; do
+        name=$(basename "$file")
+        awk -v name="$name" '$2 == name { found = 1 } END { exit !found }' "$here/rust.sha256" || echo "$name is a file too many"
+    done
+}
+found=$(strangers)
+if [ -n "$found" ]; then
+    echo "the Rust in $base is not the one that oracle/rust.sha256 names:" >&2
+    echo "$found" >&2
+    exit 1
+fi
+
+if [ "${1:-}" = --source ]; then
+    cd "$base" && pwd -P
+    exit
+fi
 
 # Writes standard input to a file, and leaves a file with the same text as it was.
 put() {
