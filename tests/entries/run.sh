@@ -1,6 +1,7 @@
 #!/usr/bin/env bash
 # The port's C entries beside the Rust, on the same bytes: number, five buffers and the bytes around them.
-#   run.sh                  100,000 steps, and the driver itself on entries with a fault, each of which it has to see
+#   run.sh                  200,000 steps of each of two seeds, since some faults show late or in one alone; and the driver itself on
+#                           entries with a fault, each of which it has to see (tests/planted has faults of the Rust)
 #   run.sh STEPS [SEED]     that many steps
 # Exit status 0: nothing differs.
 set -u
@@ -24,4 +25,8 @@ fi
 staticlib
 beside=$(oracle/run.sh --path entries 2>"$build/said")
 need $? "$build/said"
-"$beside" "$@"
+if [ $# -gt 0 ]; then
+    "$beside" "$@"
+else
+    "$beside" 200000 3 && "$beside" 200000 4
+fi

@@ -4,13 +4,21 @@
 //! steps that many times in flights that seek the boundaries, with declined calls and states of all kinds
 //! among them. Exit status 1: something differs, or something was not passed through.
 
-use flights::{Both, Coverage, Pilot, Setup, break_config, break_fence, damage, once_round, star};
+mod met;
+
+use flights::{
+    Both, Coverage, Pilot, Setup, break_config, break_fence, config_frame, damage, once_round,
+    star, wide,
+};
 use frames::{
     CONFIG, DECISION, STATE, STATE_FRAME, State, TELEMETRY, TELEMETRY_FRAME, put_frame, read_fence,
     read_frame, step_entry,
 };
 use port::{Call, Entry, Sides};
 use random::Random;
+
+/// So many configurations are drawn for a flight, at least; the last that is accepted is flown.
+const DRAWN: usize = 4;
 
 struct Driver {
     random: Random,
@@ -22,9 +30,19 @@ struct Driver {
 }
 
 impl Driver {
-    /// A fence of either kind; now and then a star, as kind 2.
-    fn setup(&mut self) -> Setup {
-        let setup = Setup::random(&mut self.random);
+    /// A fence of either kind; now and then a star, as kind 2. What is drawn goes through both sides first, so that one that only
+    /// the Rust, or only the port, refuses is seen.
+    fn setup(&mut self) -> Result<Setup, String> {
+        let mut setup = None;
+        for drawn in 0.. {
+            if drawn >= DRAWN && setup.is_some() {
+                break;
+            }
+            let (cfg, fence) = wide(&mut self.random);
+            self.judge(&config_frame(&cfg), &fence)?;
+            setup = Setup::of(&cfg, fence).or(setup);
+        }
+        let setup = setup.expect("one that is accepted");
         let other = match self.random.below(8) {
             0 => setup.fenced(star(&mut self.random)),
             1..4 => setup.fenced(once_round(setup.fence.clone())),
@@ -33,20 +51,40 @@ impl Driver {
         let setup = other.unwrap_or(setup);
         self.coverage
             .add("fence", format!("kind {}", setup.fence[2]));
-        setup
+        met::setup(&mut self.coverage, &setup.cfg);
+        Ok(setup)
+    }
+
+    /// One step with this configuration and fence from a fresh state.
+    fn judge(&mut self, config: &[u8], fence: &[u8]) -> Result<(), String> {
+        let mut call = Call {
+            config: config.to_vec(),
+            fence: fence.to_vec(),
+            state: self.fresh()?,
+            telemetry: vec![0; TELEMETRY_FRAME],
+            output: vec![0; 95],
+            ..Call::default()
+        };
+        call.telemetry[..4].copy_from_slice(&[(TELEMETRY_FRAME - 2) as u8, 0, TELEMETRY as u8, 0]);
+        self.sides.step(&mut call).map(|_| ())
     }
 
     /// One flight, from a fresh state.
     fn fly(&mut self, steps: usize) -> Result<(), String> {
-        let setup = self.setup();
+        let setup = self.setup()?;
         let mut both = Both::new(&setup.config, &setup.fence).expect("an accepted configuration");
-        let mut pilot = Pilot::new(&mut self.random);
+        let mut pilot = Pilot::wide(&mut self.random);
         let mut call = Call {
             config: setup.config.to_vec(),
             fence: setup.fence.clone(),
             state: self.fresh()?,
             ..Call::default()
         };
+        assert_eq!(
+            call.state,
+            both.state_frame(),
+            "the fresh entry and Supervisor::new differ"
+        );
         for _ in 0..steps {
             let old = both.state();
             let t = pilot.next(&mut self.random, &setup, &old);
@@ -82,7 +120,9 @@ impl Driver {
                 "the Rust's entry and the Rust differ"
             );
             let d = read_frame(DECISION, &decision).expect("a Decision");
-            self.coverage.step(&setup, &old, &t, &d, &both.state());
+            let new = both.state();
+            self.coverage.step(&setup, &old, &t, &d, &new);
+            met::step(&mut self.coverage, &setup, &old, &t, &d, &new);
         }
         Ok(())
     }
@@ -159,7 +199,7 @@ impl Driver {
         );
         match port::check(&call.config, &call.fence) {
             Some(number) if number != due => Err(format!(
-                "failsafe_check answers {number}, and the Rust {due}"
+                "failsafe_check answers {number}, and the Rust {due}\n"
             )),
             _ => Ok(()),
         }
@@ -316,6 +356,7 @@ fn main() {
         driver.coverage.steps, driver.declined, driver.several, driver.odd_states
     );
     let mut missing = driver.missing();
+    missing.extend(met::missing(&driver.coverage));
     missing.extend(driver.coverage.missing());
     if !missing.is_empty() {
         println!("not passed through: {}", missing.join(", "));

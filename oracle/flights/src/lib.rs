@@ -5,6 +5,7 @@ mod areas;
 mod both;
 mod coverage;
 mod damage;
+mod limits;
 mod pilot;
 mod setup;
 mod timers;
@@ -15,6 +16,7 @@ pub use areas::{
 pub use both::Both;
 pub use coverage::Coverage;
 pub use damage::{break_config, break_fence, damage, once_round, star};
+pub use limits::{minus, orders_told};
 pub use pilot::Pilot;
-pub use setup::{Setup, config_frame, fence_frame};
+pub use setup::{Setup, config_frame, fence_frame, wide};
 pub use timers::{Hold, holds};

@@ -9,6 +9,7 @@ use failsafe_open::{
 use frames::State;
 use random::Random;
 
+use crate::limits::{at_limit, beside};
 use crate::setup::Setup;
 use crate::timers::holds;
 
@@ -56,6 +57,8 @@ pub struct Pilot {
     /// Steps of the row of faults that are still to come.
     faults: usize,
     begun: bool,
+    /// Jumps and velocities along all three axes. The fixed list's flights have them along one.
+    wide: bool,
 }
 
 impl Pilot {
@@ -71,6 +74,15 @@ impl Pilot {
             },
             faults: 0,
             begun: false,
+            wide: false,
+        }
+    }
+
+    /// One whose jumps and velocities go along all three axes.
+    pub fn wide(random: &mut Random) -> Self {
+        Pilot {
+            wide: true,
+            ..Pilot::new(random)
         }
     }
 
@@ -148,14 +160,24 @@ impl Pilot {
         }
         if random.chance(12) {
             let calm = !random.chance(self.trouble);
-            self.place = match random.below(8) {
+            self.place = match random.below(if self.wide { 10 } else { 8 }) {
                 _ if calm => Place::Inside,
                 0 | 1 => Place::NearSide,
                 2 | 3 => Place::Outside,
-                4 => Place::High,
-                5 | 6 => Place::Low,
+                4 | 8 => Place::High,
+                5 | 6 | 9 => Place::Low,
                 _ => Place::Jump,
             };
+        }
+    }
+
+    /// Too high or too low for a while, lest the timers of the altitude start anew at every step.
+    fn stays(&self, random: &mut Random, low: f32, high: f32) -> bool {
+        let alt = -self.pos.d;
+        match self.place {
+            Place::High => alt > high && !random.chance(4),
+            Place::Low => alt < low && !random.chance(4),
+            _ => false,
         }
     }
 
@@ -167,6 +189,9 @@ impl Pilot {
         let inner = Point2 { n: 0.0, e: 0.0 };
         let fresh = random.chance(6);
         let mut to = self.pos;
+        if self.wide && self.stays(random, low, high) {
+            return;
+        }
         match self.place {
             Place::Inside => {
                 if fresh {
@@ -182,7 +207,11 @@ impl Pilot {
                 let c = &setup.cfg;
                 let wanted = [0.0, c.fence_approach_m, c.fence_breach_clear_m, 1.0];
                 let way = random_way(random);
-                let at = toward_side(random, setup, way, inner, &wanted);
+                let at = if self.wide && random.chance(8) {
+                    fence.poly.vertex(random.below(fence.poly.len()))
+                } else {
+                    toward_side(random, setup, way, inner, &wanted)
+                };
                 to = Vec3 {
                     n: at.n,
                     e: at.e,
@@ -224,10 +253,14 @@ impl Pilot {
                 if let Some(last) = state.glitch.last_accepted {
                     let seconds = now.wrapping_sub(last.t_ms) as f32 / 1000.0;
                     let limit = setup.cfg.v_max * seconds * 2.0 + 5.0;
-                    let off = beside(random, limit);
-                    to = Vec3 {
-                        n: last.pos.n + off,
-                        ..last.pos
+                    to = if self.wide {
+                        at_limit(random, last.pos, limit)
+                    } else {
+                        let off = beside(random, limit);
+                        Vec3 {
+                            n: last.pos.n + off,
+                            ..last.pos
+                        }
                     };
                 }
             }
@@ -243,6 +276,7 @@ impl Pilot {
                 t_ms,
                 value: match modes[channel] {
                     Mode::Bad => false,
+                    Mode::Edge if self.wide => !random.chance(3),
                     Mode::Unfit => random.chance(2),
                     _ => true,
                 },
@@ -260,6 +294,7 @@ impl Pilot {
                 value: match modes[LANDED] {
                     Mode::Good => LandedState::InAir,
                     Mode::Bad => LandedState::OnGround,
+                    Mode::Edge if self.wide && random.chance(2) => LandedState::InAir,
                     _ => random.one_of(&[
                         LandedState::Undefined,
                         LandedState::OnGround,
@@ -280,11 +315,7 @@ impl Pilot {
         let mut sample = PositionSample {
             t_ms,
             pos: self.pos,
-            vel: Vec3 {
-                n: 1.0,
-                e: 0.0,
-                d: 0.0,
-            },
+            vel: self.velocity(random),
         };
         if mode == Mode::Unfit {
             let values = [
@@ -313,6 +344,26 @@ impl Pilot {
             }
         }
         Some(sample)
+    }
+
+    fn velocity(&self, random: &mut Random) -> Vec3 {
+        let still = Vec3 {
+            n: 0.0,
+            e: 0.0,
+            d: 0.0,
+        };
+        if !self.wide {
+            return Vec3 { n: 1.0, ..still };
+        }
+        let edge = self.modes[POSITION] == Mode::Edge;
+        if random.chance(if edge { 3 } else { 100 }) {
+            return at_limit(random, still, 100.0);
+        }
+        Vec3 {
+            n: random.between(-10.0, 10.0),
+            e: random.between(-10.0, 10.0),
+            d: random.between(-10.0, 10.0),
+        }
     }
 
     fn battery(&self, random: &mut Random, setup: &Setup, now: u32) -> BatteryInputs {
@@ -415,11 +466,6 @@ fn seek(random: &mut Random, setup: &Setup, state: &State, last: u32) -> Option<
             .wrapping_add(random.below(3) as u32)
             .wrapping_sub(1),
     )
-}
-
-/// The number, or the float below or above it.
-fn beside(random: &mut Random, x: f32) -> f32 {
-    random.one_of(&[x.next_down(), x, x.next_up()])
 }
 
 /// The stamp of a reading in this mode.

@@ -6,6 +6,8 @@ use frames::{
 };
 use random::Random;
 
+use crate::limits::beside;
+
 /// Floats of a Config that no rule looks at, by their place in declared order.
 const FREE_FLOATS: [usize; 11] = [21, 22, 24, 26, 29, 31, 43, 45, 46, 54, 61];
 /// Durations that no rule looks at.
@@ -101,6 +103,92 @@ impl Setup {
                 return setup;
             }
         }
+    }
+}
+
+/// A configuration and a fence frame, mostly accepted together, with what the fixed list's flights seldom or never have: powers of
+/// −0, each threshold to clear on both sides of the one to set, so that both of its timers may run at once, and what the rules compare
+/// at the limit.
+pub fn wide(random: &mut Random) -> (Config, Vec<u8>) {
+    let mut cfg = random_config(random);
+    clear_thresholds(random, &mut cfg);
+    if random.chance(4) {
+        minus_zeros(random, &mut cfg);
+    }
+    if random.chance(8) {
+        equal_percents(random, &mut cfg);
+    }
+    let fence = match random.below(8) {
+        0 => limit_fence(random, cfg.h_rtl),
+        _ => random_fence(random, cfg.h_rtl),
+    };
+    (cfg, fence)
+}
+
+fn clear_thresholds(random: &mut Random, cfg: &mut Config) {
+    if random.chance(2) {
+        cfg.alt_min_clear_m = random.one_of(&[-30.0, -3.0, -1.0, -0.0, 2.0]);
+    }
+    if random.chance(2) {
+        cfg.alt_max_clear_m = random.one_of(&[-40.0, -20.0, -3.0, -0.0, 5.0]);
+    }
+    if random.chance(2) {
+        let part = random.one_of(&[-0.5, 0.0, 0.25, 0.5, 1.0, 1.4]);
+        cfg.energy_marginal_clear_wh = part * cfg.energy_marginal_wh;
+    }
+    if random.chance(4) {
+        cfg.fence_breach_clear_m = random.one_of(&[-6000.0, -60.0, -1.0, -0.0, 0.0]);
+    }
+}
+
+fn minus_zeros(random: &mut Random, cfg: &mut Config) {
+    let all = random.chance(3);
+    for power in [
+        &mut cfg.p_cruise,
+        &mut cfg.p_climb,
+        &mut cfg.p_desc,
+        &mut cfg.reserve_wh,
+    ] {
+        if all || random.chance(3) {
+            *power = -0.0;
+        }
+    }
+}
+
+/// Two percents of the order are one, or a float apart.
+fn equal_percents(random: &mut Random, cfg: &mut Config) {
+    let (low, warn) = (cfg.battery_low_pct, cfg.battery_warn_pct);
+    match random.below(4) {
+        0 => cfg.battery_critical_pct = beside(random, low),
+        1 => cfg.battery_low_pct = beside(random, warn),
+        2 => cfg.battery_low_clear_pct = beside(random, low),
+        _ => cfg.battery_warn_clear_pct = beside(random, warn),
+    }
+}
+
+/// A box with a side or a corner at home or a float beside it, an area at its limit of 100, or an altitude at h_rtl.
+fn limit_fence(random: &mut Random, h_rtl: f32) -> Vec<u8> {
+    let edge = random.one_of(&[0.0, -0.0, 1e-40, -1e-40, 5e-4, -5e-4, -30.0]);
+    let (wide, deep) = random.one_of(&[(10.0, 10.0), (5.0, 20.0), (400.0, 90.0), (2000.0, 60.0)]);
+    let deep = beside(random, deep);
+    let east = random.one_of(&[0.0, -0.0, -5.0, -wide]);
+    let mut points = [
+        (edge, east),
+        (edge, east + wide),
+        (edge + deep, east + wide),
+        (edge + deep, east),
+    ];
+    if random.chance(2) {
+        points.reverse();
+    }
+    if random.chance(2) {
+        points = points.map(|(n, e)| (e, n));
+    }
+    let (low, high) = (h_rtl - 25.0, h_rtl + 90.0);
+    match random.below(3) {
+        0 => fence_frame(beside(random, h_rtl), high, &points),
+        1 => fence_frame(low, beside(random, h_rtl), &points),
+        _ => fence_frame(low, high, &points),
     }
 }
 

@@ -72,18 +72,11 @@ record!(State {
 });
 
 impl State {
-    /// What `Supervisor::new` begins with.
+    /// What `Supervisor::new` begins with, whatever configuration and fence it is handed.
     pub fn fresh() -> Self {
-        State {
-            triggers: rust::TriggerState::default(),
-            arbiter: rust::ArbiterState::default(),
-            disarm: rust::DisarmGate::default(),
-            glitch: rust::GlitchState::default(),
-            last_now: None,
-            epoch_start: 0,
-            backwards_streak: 0,
-            initialized: false,
-        }
+        let fence = rust::default_fence().expect("the default fence is accepted");
+        let new = rust::Supervisor::new(rust::Config::default(), fence);
+        State::of(&new.expect("the defaults are accepted"))
     }
 
     /// The state's own rules come with refusal 4.
