@@ -120,6 +120,7 @@ pub fn wide(random: &mut Random) -> (Config, Vec<u8>) {
     }
     let fence = match random.below(8) {
         0 => limit_fence(random, cfg.h_rtl),
+        1 => straight_fence(random, cfg.h_rtl),
         _ => random_fence(random, cfg.h_rtl),
     };
     (cfg, fence)
@@ -164,6 +165,22 @@ fn equal_percents(random: &mut Random, cfg: &mut Config) {
         2 => cfg.battery_low_clear_pct = beside(random, low),
         _ => cfg.battery_warn_clear_pct = beside(random, warn),
     }
+}
+
+/// A ring with a corner in the middle between its neighbours, or a float beside it: its turn is about 0.
+fn straight_fence(random: &mut Random, h_rtl: f32) -> Vec<u8> {
+    let radius = random.one_of(&[150.0, 9000.0]);
+    let count = 5 + random.below(6);
+    let mut points = random::circle(random, count, radius, (0.0, 0.0));
+    let (a, c) = (points[0], points[2]);
+    points[1] = (
+        beside(random, (a.0 + c.0) / 2.0),
+        beside(random, (a.1 + c.1) / 2.0),
+    );
+    if random.chance(2) {
+        points.reverse();
+    }
+    fence_frame(h_rtl - 25.0, h_rtl + 90.0, &points)
 }
 
 /// A box with a side or a corner at home or a float beside it, an area at its limit of 100, or an altitude at h_rtl.
