@@ -1,14 +1,27 @@
 # Sourced by the tests that need the Rust or the static library. `top` is the repository's folder; a test sets `build`, the folder of what it makes.
 top=$(cd "$(dirname "${BASH_SOURCE[0]}")/.." && pwd)
 
-# Ends the test where STATUS says that something is not here, or went wrong; SAID is the file with the reason.
+# Ends the test where STATUS says that something is not here, or went wrong; SAID is the file with the reason. A test that has run a
+# part by then sets `rest`, what it leaves out.
 need() { # STATUS SAID
     if [ "$1" -eq 77 ]; then
-        echo "skipped: $(cat "$2")"
+        if [ -n "${rest:-}" ]; then
+            echo "left out: $rest ($(cat "$2"))"
+        else
+            echo "skipped: $(cat "$2")"
+        fi
         exit 0
     elif [ "$1" -ne 0 ]; then
         cat "$2"
         exit "$1"
+    fi
+}
+
+# Ends the test where there is no C compiler.
+need_gcc() {
+    if ! command -v gcc >/dev/null 2>&1; then
+        echo "no C compiler (gcc) is here" >"$build/said"
+        need 77 "$build/said"
     fi
 }
 

@@ -7,6 +7,7 @@ set -eu
 cd "$top"
 build=$top/build/host
 mkdir -p "$build"
+need_gcc
 staticlib
 for source in examples/host.c tests/host/empty.c tests/host/boot.c; do
     gcc -std=c11 -O2 -Wall -Wextra -Werror -pedantic -Iinclude -o "$build/$(basename "$source" .c)" "$source" target/staticlib/libfailsafe.a

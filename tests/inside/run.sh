@@ -9,6 +9,7 @@ cd "$top" || exit 1
 build=$top/build/inside
 mkdir -p "$build"
 
+need_gcc
 staticlib
 gcc -std=c11 -O2 -Wall -Wextra -Werror -pedantic -Iinclude -o "$build/map" examples/map.c target/staticlib/libfailsafe.a || exit 1
 tools/frames.py points samples/points.txt "$build/points" || exit 1
@@ -22,6 +23,7 @@ if "$build/map" "$build/fence" "$build/fence" >"$build/none" 2>"$build/said" || 
     exit 1
 fi
 
+rest="the points beside the Rust"
 beside=$(oracle/run.sh --path inside 2>"$build/said")
 need $? "$build/said"
 "$beside" "$@"

@@ -5,10 +5,11 @@
 # Needs rt and gcc on x86-64. Exit status 0: nothing differs.
 set -eu
 
-root=$(cd "$(dirname "${BASH_SOURCE[0]}")/../.." && pwd)
-cd "$root"
-build=$root/build/sqrt
+. "$(dirname "${BASH_SOURCE[0]}")/../common.sh"
+cd "$top"
+build=$top/build/sqrt
 mkdir -p "$build"
+need_gcc
 
 if ! rt staticlib float32_c >"$build/staticlib.out" 2>&1; then
     cat "$build/staticlib.out"

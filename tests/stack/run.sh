@@ -6,6 +6,7 @@ cd "$top" || exit 1
 build=$top/build/stack
 mkdir -p "$build"
 
+need_gcc
 staticlib
 # -z now: no name is looked up, on this stack, within a call.
 gcc -Wl,-z,now -std=c11 -O2 -Wall -Wextra -Werror -pedantic -Iinclude -o "$build/stack" tests/stack/stack.c target/staticlib/libfailsafe.a || exit 1

@@ -15,6 +15,7 @@ fail() {
     exit 1
 }
 
+need_gcc
 if ! rt check trials decide >"$build/check.out" 2>&1; then
     cat "$build/check.out"
     exit 1
@@ -58,6 +59,7 @@ END
 echo "program, entry and reckoning make the same frames; bad arguments make none"
 
 # A flight of the default configuration and fence.
+rest="the load beside the Rust"
 rust=$(oracle/run.sh --path decide 2>"$build/said")
 need $? "$build/said"
 target/bin/trials "$seed" "$steps" >"$build/load"

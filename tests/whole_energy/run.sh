@@ -15,6 +15,7 @@ fail() {
     failed=1
 }
 
+need_gcc
 staticlib
 gcc -std=c11 -D_POSIX_C_SOURCE=199309L -O2 -Wall -Wextra -Werror -pedantic -Iinclude -o "$build/energy_test" tests/whole_energy/energy_test.c target/staticlib/libfailsafe.a || exit 1
 tests/whole_energy/reckon.py "$build/energy_test" "$@" || fail "the entry differs"
