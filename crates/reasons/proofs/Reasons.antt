@@ -1,0 +1,215 @@
+-- The claim of specs/Claim.antt. Assumes nothing.
+use Prim.Native.Nat.{ℕ}
+use mathlib.Core.Bool.{Bool, true, false, false≢true, true≢false}
+use mathlib.Core.Path.{_≡_, refl, ap, sym, _∙_}
+use lib.Ieee.{Float}
+use Rattle.types.specs.declared.Action.{Action}
+use Rattle.types.specs.declared.OptionAction.{OptionAction}
+use Rattle.types.specs.declared.Reason.{Reason}
+use Rattle.types.specs.declared.OptionF32.{OptionF32}
+use Rattle.types.specs.declared.OptionU32.{OptionU32}
+use Rattle.types.specs.declared.Telemetry.{Telemetry}
+use Rattle.types.specs.ActiveSet.{emptySet, setRequest}
+use Rattle.time.specs.Time.{Clock, age}
+use Rattle.config.specs.declared.Config.{Config}
+use Rattle.triggers.specs.declared.OptionPlace.{OptionPlace}
+use Rattle.triggers.specs.declared.TriggerState.{TriggerState}
+use Rattle.triggers.specs.declared.Raised.{Raised}
+use Rattle.triggers.specs.declared.Families.{Families}
+use Rattle.timers.specs.Timer.{raisedBy}
+use Rattle.triggers.specs.Families.{gps, ekf}
+use Rattle.triggers.specs.Update.{freshTriggers, families, raisedOf, rcLost, linkRequests, fenceRequests, batteryRequests, requests, nextTriggers, update}
+use Rattle.clock.specs.Clock.{clockFault, soundClock, byAge, clockStep}
+use Rattle.supervisor.specs.declared.Supervisor.{Supervisor}
+use Rattle.supervisor.specs.Settings.{Settings, Fed}
+use Rattle.supervisor.specs.Step.{sense, disarmedDecision, disarmed, decisionOf, flown, step}
+use Rattle.step_laws.specs.Laws.{clockAt, disarms, restFrom, after}
+use Rattle.step_laws.proofs.Laws.{step-claim}
+use Rattle.reasons.specs.Reasons.{when, filed, filedOnFault, filedOnDisarm, batteryLatch, energyLatch}
+use Rattle.reasons.specs.Claim.{Files, UpdateReasons, UpdateClaim, StepReasons, StepReasonsClaim}
+use Rattle.reasons.proofs.Slots.{empty-files, with-row, files-option, files-if, files-as}
+use Rattle.reasons.proofs.Rows.{pair, invalid-row, stale-row, link-row, rc-row, approach-row, breach-row, max-row, min-row, warn-row, low-row, latch-row, critical-row, marginal-row, short-row, infeasible-row}
+
+-- ---- the families' requests, in the Rust's order
+
+module _ (keeps : Bool) (on : Raised) (f : Families) where
+  abbrev links : Reason → OptionAction
+  links =
+      with-row Reason.EkfUnhealthy (when (on .«ekf_unhealthy») Action.Land)
+      (with-row Reason.GpsLost (when (on .«gps_lost») Action.Land)
+      (with-row Reason.GpsDegraded (when (on .«gps_degraded») Action.Warn)
+      (with-row Reason.RcLost (when (rcLost keeps (f .rc)) Action.ReturnToLaunch)
+      (with-row Reason.GcsLinkLost (f .gcs .request)
+      (with-row Reason.InvalidInput (when (f .invalid .active) Action.Warn)
+      filedOnDisarm)))))
+
+  links-filed : Files (linkRequests keeps on f) links
+  unfolding linkRequests
+  links-filed =
+      files-if Reason.EkfUnhealthy (on .«ekf_unhealthy») Action.Land refl
+      (files-if Reason.GpsLost (on .«gps_lost») Action.Land refl
+      (files-if Reason.GpsDegraded (on .«gps_degraded») Action.Warn refl
+      (files-if Reason.RcLost (rcLost keeps (f .rc)) Action.ReturnToLaunch refl
+      (files-option Reason.GcsLinkLost (f .gcs .request) refl
+      (files-if Reason.InvalidInput (f .invalid .active) Action.Warn refl
+      empty-files)))))
+
+  abbrev fences : Reason → OptionAction
+  fences =
+      with-row Reason.AltitudeMin (when (on .«altitude_min») Action.Warn)
+      (with-row Reason.AltitudeMax (when (raisedBy false false (f .fence .«alt_max»)) Action.ReturnToLaunch)
+      (with-row Reason.FenceBreach (when (on .«fence_breach») Action.ReturnToLaunch)
+      (with-row Reason.FenceApproach (when (f .fence .approach) Action.Warn)
+      links)))
+
+  fences-filed : Files (fenceRequests (linkRequests keeps on f) on (f .fence)) fences
+  unfolding fenceRequests
+  fences-filed =
+      files-if Reason.AltitudeMin (on .«altitude_min») Action.Warn refl
+      (files-if Reason.AltitudeMax (raisedBy false false (f .fence .«alt_max»)) Action.ReturnToLaunch refl
+      (files-if Reason.FenceBreach (on .«fence_breach») Action.ReturnToLaunch refl
+      (files-if Reason.FenceApproach (f .fence .approach) Action.Warn refl
+      links-filed)))
+
+  abbrev asked : Reason → OptionAction
+  asked =
+      with-row Reason.EnergyRtlInfeasible (when (f .energy .infeasible) Action.Land)
+      (with-row Reason.EnergyRtlMarginal (when (on .«energy_rtl_marginal») Action.ReturnToLaunch)
+      (with-row Reason.BatteryCritical (when (f .battery .critical) Action.Land)
+      (with-row Reason.BatteryLow (when (on .«battery_low») Action.ReturnToLaunch)
+      (with-row Reason.BatteryWarn (when (on .«battery_warn») Action.Warn)
+      (with-row Reason.StaleBattery (when (f .stale .stale) Action.ReturnToLaunch)
+      fences)))))
+
+  asked-filed : Files (requests keeps on f) asked
+  unfolding requests batteryRequests
+  asked-filed =
+      files-if Reason.EnergyRtlInfeasible (f .energy .infeasible) Action.Land refl
+      (files-if Reason.EnergyRtlMarginal (on .«energy_rtl_marginal») Action.ReturnToLaunch refl
+      (files-if Reason.BatteryCritical (f .battery .critical) Action.Land refl
+      (files-if Reason.BatteryLow (on .«battery_low») Action.ReturnToLaunch refl
+      (files-if Reason.BatteryWarn (on .«battery_warn») Action.Warn refl
+      (files-if Reason.StaleBattery (f .stale .stale) Action.ReturnToLaunch refl
+      fences-filed)))))
+
+-- ---- row by row
+
+when-same : {a b : Bool} (act : Action) → a ≡ b → when a act ≡ when b act
+when-same act e = ap (λ (x : Bool). when x act) e
+
+module _ (ck : Clock) (s : TriggerState) (t : Telemetry) (cfg : Config) (lo hi : Float) (place : OptionPlace) (margin : OptionF32) (invalid : Bool) where
+  abbrev f : Families
+  f = families ck s t cfg lo hi place margin invalid
+
+  abbrev on : Raised
+  on = raisedOf (cfg .«keeps_raised») (s .raised) f
+
+  rows : (q : Reason) → asked (cfg .«keeps_raised») on f q ≡ filed ck s t cfg lo hi place margin invalid q
+  unfolding filed batteryLatch energyLatch families raisedOf gps ekf
+  rows Reason.None = refl
+  rows Reason.ClockFault = refl
+  rows Reason.InvalidInput = when-same Action.Warn (invalid-row ck (t .«now_ms») cfg _ _ invalid _)
+  rows Reason.StaleBattery = when-same Action.ReturnToLaunch (stale-row ck (t .«now_ms») cfg _ _ _ _)
+  rows Reason.GcsLinkLost = link-row ck (t .«now_ms») cfg _ _ _
+  rows Reason.RcLost = when-same Action.ReturnToLaunch (rc-row ck (t .«now_ms») cfg (cfg .«keeps_raised») _ _ _)
+  rows Reason.GpsDegraded = when-same Action.Warn (pair ck (t .«now_ms») (cfg .«keeps_raised») _ _ _ _ _ _ _)
+  rows Reason.GpsLost = when-same Action.Land (pair ck (t .«now_ms») (cfg .«keeps_raised») _ _ _ _ _ _ _)
+  rows Reason.EkfUnhealthy = when-same Action.Land (pair ck (t .«now_ms») (cfg .«keeps_raised») _ _ _ _ _ _ _)
+  rows Reason.PositionInvalid = refl
+  rows Reason.FenceApproach = when-same Action.Warn (approach-row ck (t .«now_ms») cfg s _ lo hi place)
+  rows Reason.FenceBreach = when-same Action.ReturnToLaunch (breach-row ck (t .«now_ms») cfg s _ lo hi (cfg .«keeps_raised») _ place)
+  rows Reason.AltitudeMax = when-same Action.ReturnToLaunch (max-row ck (t .«now_ms») cfg s _ lo hi place)
+  rows Reason.AltitudeMin = when-same Action.Warn (min-row ck (t .«now_ms») cfg s _ lo hi (cfg .«keeps_raised») _ place)
+  rows Reason.BatteryWarn = when-same Action.Warn (warn-row ck (t .«now_ms») cfg s _ (cfg .«keeps_raised») _ _)
+  rows Reason.BatteryLow = when-same Action.ReturnToLaunch (low-row ck (t .«now_ms») cfg s _ (cfg .«keeps_raised») _ _)
+  rows Reason.BatteryCritical = when-same Action.Land (critical-row ck (t .«now_ms») cfg s _ _)
+  rows Reason.EnergyRtlMarginal = when-same Action.ReturnToLaunch (marginal-row ck (t .«now_ms») cfg s (cfg .«keeps_raised») _ margin)
+  rows Reason.EnergyRtlInfeasible = when-same Action.Land (infeasible-row ck (t .«now_ms») cfg s margin)
+
+  sound-filed : Files (update ck s t cfg lo hi place margin invalid false .active) (filed ck s t cfg lo hi place margin invalid)
+  unfolding update
+  sound-filed = files-as rows (asked-filed (cfg .«keeps_raised») on f)
+
+  fault-filed : Files (update ck s t cfg lo hi place margin invalid true .active) filedOnFault
+  unfolding update
+  fault-filed = files-option Reason.ClockFault (OptionAction.Some Action.Warn) refl empty-files
+
+  battery-latched : update ck s t cfg lo hi place margin invalid false .triggers .«battery_critical_latched» ≡ batteryLatch ck s t cfg lo hi place margin invalid
+  unfolding update families nextTriggers batteryLatch
+  battery-latched = latch-row ck (t .«now_ms») cfg s _ _
+
+  energy-latched : update ck s t cfg lo hi place margin invalid false .triggers .«energy_infeasible_latched» ≡ energyLatch ck s t cfg lo hi place margin invalid
+  unfolding update families nextTriggers energyLatch
+  energy-latched = short-row ck (t .«now_ms») cfg s margin
+
+pub update-reasons : UpdateClaim
+update-reasons ck s t cfg lo hi place margin invalid =
+    record {
+      sound = sound-filed ck s t cfg lo hi place margin invalid;
+      battery-latch = battery-latched ck s t cfg lo hi place margin invalid;
+      energy-latch = energy-latched ck s t cfg lo hi place margin invalid;
+      fault = fault-filed ck s t cfg lo hi place margin invalid;
+    }
+
+-- ---- a whole step
+
+-- at a step that is known to be sound, or faulted
+module _ (ck : Clock) (s : TriggerState) (t : Telemetry) (cfg : Config) (lo hi : Float) (place : OptionPlace) (margin : OptionF32) (invalid : Bool) where
+  sound-at : (fault : Bool) → fault ≡ false → Files (update ck s t cfg lo hi place margin invalid fault .active) (filed ck s t cfg lo hi place margin invalid)
+  sound-at true e = absurd (true≢false e)
+  sound-at false e = sound-filed ck s t cfg lo hi place margin invalid
+
+  battery-at : (fault : Bool) → fault ≡ false → update ck s t cfg lo hi place margin invalid fault .triggers .«battery_critical_latched» ≡ batteryLatch ck s t cfg lo hi place margin invalid
+  battery-at true e = absurd (true≢false e)
+  battery-at false e = battery-latched ck s t cfg lo hi place margin invalid
+
+  energy-at : (fault : Bool) → fault ≡ false → update ck s t cfg lo hi place margin invalid fault .triggers .«energy_infeasible_latched» ≡ energyLatch ck s t cfg lo hi place margin invalid
+  energy-at true e = absurd (true≢false e)
+  energy-at false e = energy-latched ck s t cfg lo hi place margin invalid
+
+  fault-at : (fault : Bool) → fault ≡ true → Files (update ck s t cfg lo hi place margin invalid fault .active) filedOnFault
+  fault-at true e = fault-filed ck s t cfg lo hi place margin invalid
+  fault-at false e = absurd (false≢true e)
+
+-- only a fault is a third one
+sound-clears-nothing : (ck : Clock) (last : OptionU32) (epoch streak : ℕ) (init : Bool) (now : ℕ) → clockStep ck last epoch streak init now .fault ≡ false → clockStep ck last epoch streak init now .third ≡ false
+unfolding clockStep soundClock clockFault
+sound-clears-nothing ck last epoch streak false now h = refl
+sound-clears-nothing ck OptionU32.None epoch streak true now h = refl
+sound-clears-nothing ck (OptionU32.Some last) epoch streak true now h = at (age ck now last) h
+  where
+    at : (a : OptionU32) → byAge a last epoch streak now .fault ≡ false → byAge a last epoch streak now .third ≡ false
+    at OptionU32.None h = absurd (true≢false h)
+    at (OptionU32.Some a) h = refl
+
+module _ (r : Settings) (s : Supervisor) (fed : Fed) where
+  -- a sound step is sensed from the state as it is
+  from-state : clockAt r s fed .fault ≡ false → disarms r s fed ≡ false → step r s fed ≡ restFrom r s fed s
+  from-state f d = step-claim r s fed .else-clears-nothing (sound-clears-nothing _ _ _ _ _ _ f) d
+
+  faulted : clockAt r s fed .fault ≡ true → disarms r s fed ≡ false → Files (step r s fed .decision .active) filedOnFault
+  unfolding step flown sense decisionOf
+  faulted f d = rw d (fault-at _ _ _ _ _ _ _ _ _ _ f)
+
+  disarmed-files : disarms r s fed ≡ true → Files (step r s fed .decision .active) filedOnDisarm
+  unfolding step disarmed disarmedDecision
+  disarmed-files d = rw d empty-files
+
+  disarmed-latches : disarms r s fed ≡ true → (after r s fed .triggers .«battery_critical_latched» ≡ false) × (after r s fed .triggers .«energy_infeasible_latched» ≡ false)
+  unfolding step disarmed freshTriggers
+  disarmed-latches d = rw (after, d) (refl, refl)
+
+  step-reasons-at : StepReasons r s fed
+  unfolding flown sense decisionOf
+  step-reasons-at =
+      record {
+        sound = λ f d. rw (from-state f d) (sound-at _ _ _ _ _ _ _ _ _ _ f);
+        battery-latch = λ f d. rw (after, from-state f d) (battery-at _ _ _ _ _ _ _ _ _ _ f);
+        energy-latch = λ f d. rw (after, from-state f d) (energy-at _ _ _ _ _ _ _ _ _ _ f);
+        fault = faulted;
+        disarm = disarmed-files;
+        disarm-latches = disarmed-latches;
+      }
+
+pub step-reasons : StepReasonsClaim
+step-reasons = step-reasons-at

@@ -1,0 +1,3 @@
+-- When each reason is filed.
+pub mod Reasons
+pub mod Claim

@@ -1,0 +1,196 @@
+-- When each reason is filed, and with which action: a row a reason, in the order of the enum. Assumes nothing.
+-- The readings are validated, the ages and timers are taken at the step's reading of the clock, the timers and latches are those before the step. The step is
+-- sound and no confirmed disarm.
+use Prim.Native.Nat.{ℕ}
+use mathlib.Core.Bool.{Bool, true, false, not, _&&_, _||_, cond}
+use lib.Dec.{leb, ltb, eqb}
+use lib.Ieee.{Float, binary32, add, sub, lt, le}
+use Rattle.float32.specs.Binary32.{zeroF}
+use Rattle.types.specs.declared.Action.{Action}
+use Rattle.types.specs.declared.OptionAction.{OptionAction}
+use Rattle.types.specs.declared.Reason.{Reason}
+use Rattle.types.specs.declared.OptionF32.{OptionF32}
+use Rattle.types.specs.declared.OptionGpsSample.{OptionGpsSample}
+use Rattle.types.specs.declared.Telemetry.{Telemetry}
+use Rattle.types.specs.Numbers.{index}
+use Rattle.time.specs.Time.{Clock, holdMet}
+use Rattle.timers.specs.declared.Timer.{Timer}
+use Rattle.timers.specs.Timer.{sinceOr}
+use Rattle.config.specs.declared.Config.{Config}
+use Rattle.validate.specs.Fresh.{freshTrue, freshLanded, freshGps, freshBatteryPercent, freshVoltage}
+use Rattle.triggers.specs.declared.Place.{Place}
+use Rattle.triggers.specs.declared.OptionPlace.{OptionPlace}
+use Rattle.triggers.specs.declared.TriggerState.{TriggerState}
+use Rattle.triggers.specs.Families.{gcsAge, stageRequest, degraded, recovered, fixed, inAir, isPresent, lowVoltage}
+
+-- ---- the words of the rows
+
+-- filed with an action where a test holds, and else not
+abbrev pub when : Bool → Action → OptionAction
+when test a = cond test (OptionAction.Some a) OptionAction.None
+
+-- a test that holds at this step and has held for `ms`: since its timer started, which is now where it had not
+abbrev pub heldFor : Clock → ℕ → Timer → Bool → ℕ → Bool
+heldFor clock now timer test ms = test && holdMet clock now (sinceOr (timer .«since_ms») now) ms
+
+-- by a timer that sets it and one that clears it. Kind 1: its set timer has held, and its clear timer has not. Kind 11 (`keeps`): "raised before and not cleared
+-- there, or its set timer has held there".
+abbrev pub raisedFrom : Bool → Bool → Bool → Bool → Bool
+raisedFrom keeps was setHeld clearHeld = cond keeps (setHeld || (was && not clearHeld)) (setHeld && not clearHeld)
+
+-- a test of a value, and of what is read at a position; false where there is none
+abbrev pub ofValue : OptionF32 → (Float → Bool) → Bool
+ofValue OptionF32.None test = false
+ofValue (OptionF32.Some x) test = test x
+
+abbrev pub ofPlace : OptionPlace → (Place → Bool) → Bool
+ofPlace OptionPlace.None test = false
+ofPlace (OptionPlace.Some p) test = test p
+
+-- ---- the rows
+
+-- `before` is the state of the triggers before the step, `place` what is read at a valid position, `margin` what is left of the energy after a return, `invalid`
+-- whether a reading was out of bounds
+module _ (clock : Clock) (before : TriggerState) (t : Telemetry) (cfg : Config) (minAlt maxAlt : Float) (place : OptionPlace) (margin : OptionF32) (invalid : Bool) where
+  abbrev pub held : Timer → Bool → ℕ → Bool
+  held = heldFor clock (t .«now_ms»)
+
+  abbrev pub raised : Bool → Bool → Bool → Bool
+  raised = raisedFrom (cfg .«keeps_raised»)
+
+  -- fresh readings
+  abbrev pub gpsSample : OptionGpsSample
+  gpsSample = freshGps clock (t .«now_ms») (t .gps) (cfg .«gps_fresh_ms»)
+
+  abbrev pub rcOk : Bool
+  rcOk = freshTrue clock (t .«now_ms») (t .«rc_ok») (cfg .«status_fresh_ms»)
+
+  abbrev pub ekfOk : Bool
+  ekfOk = freshTrue clock (t .«now_ms») (t .«ekf_ok») (cfg .«status_fresh_ms»)
+
+  abbrev pub flying : Bool
+  flying = inAir (freshLanded clock (t .«now_ms») (t .landed) (cfg .«status_fresh_ms»))
+
+  -- in percent: of a fresh remaining_wh, else the fresh percentage
+  abbrev pub charge : OptionF32
+  charge = freshBatteryPercent clock (t .«now_ms») (t .battery) (cfg .«battery_fresh_ms») (cfg .«usable_capacity_wh»)
+
+  abbrev pub voltage : OptionF32
+  voltage = freshVoltage clock (t .«now_ms») (t .battery) (cfg .«battery_fresh_ms»)
+
+  -- of the last heartbeat; 2 ^ 32 - 1 where there is none
+  abbrev pub linkAge : ℕ
+  linkAge = gcsAge clock (t .«now_ms») (t .«gcs_heartbeat_ms»)
+
+  -- set once a fresh charge has been below battery_critical_pct, or the voltage below that of all cells, for battery_critical_set_ms; counts only steps with a fresh charge
+  unfoldable pub batteryLatch : Bool
+  batteryLatch =
+      before .«battery_critical_latched»
+      || held (before .«bat_crit_set») (ofValue charge (λ p. lt p (cfg .«battery_critical_pct») || lowVoltage voltage cfg)) (cfg .«battery_critical_set_ms»)
+
+  -- set once the margin has been below 0 for energy_infeasible_set_ms
+  unfoldable pub energyLatch : Bool
+  energyLatch =
+      before .«energy_infeasible_latched»
+      || held (before .«energy_infeas_set») (ofValue margin (λ m. lt m zeroF)) (cfg .«energy_infeasible_set_ms»)
+
+  unfoldable pub filed : Reason → OptionAction
+  -- never
+  filed Reason.None = OptionAction.None
+  -- at a faulted step only, and then alone
+  filed Reason.ClockFault = OptionAction.None
+  -- a reading is out of bounds; or one was, and since then none for less than invalid_input_clear_ms
+  filed Reason.InvalidInput =
+      when (invalid || (before .«invalid_active» && not (held (before .«invalid_clear») true (cfg .«invalid_input_clear_ms»)))) Action.Warn
+  -- neither a fresh voltage nor a fresh charge
+  filed Reason.StaleBattery = when (not (isPresent voltage || isPresent charge)) Action.ReturnToLaunch
+  -- the heartbeat is older than a limit; or it is no older than gcs_clear_ms, has not been so for gcs_clear_hold_ms, and the stage still asks for what it did
+  filed Reason.GcsLinkLost =
+      cond (ltb (cfg .«gcs_rtl_ms») linkAge) (OptionAction.Some Action.ReturnToLaunch)
+      (cond (ltb (cfg .«gcs_hold_ms») linkAge) (OptionAction.Some Action.Hold)
+      (cond (ltb (cfg .«gcs_warn_ms») linkAge) (OptionAction.Some Action.Warn)
+      (cond (leb linkAge (cfg .«gcs_clear_ms») && not (held (before .«gcs_clear_timer») true (cfg .«gcs_clear_hold_ms»))) (stageRequest (before .«gcs_stage»))
+      OptionAction.None)))
+  -- the hand controller is required and there is no fresh rc_ok of true. Kind 1: from the first such step; kind 11: once that has held for rc_lost_set_ms.
+  filed Reason.RcLost =
+      let lost = cfg .«rc_required» && not rcOk in
+      when (cond (cfg .«keeps_raised») (held (before .«rc_lost_set») lost (cfg .«rc_lost_set_ms»)) lost) Action.ReturnToLaunch
+  -- no fresh sample, or fewer than 8 satellites or hdop above 2.5, or either not told; clears with 10 satellites and hdop at most 2
+  filed Reason.GpsDegraded =
+      when
+      (raised (before .raised .«gps_degraded»)
+      (held (before .«gps_deg_set») (degraded gpsSample) (cfg .«gps_degraded_set_ms»))
+      (held (before .«gps_deg_clear») (recovered gpsSample) (cfg .«gps_degraded_clear_ms»)))
+      Action.Warn
+  -- no fresh sample with a fix in three dimensions; clears with one
+  filed Reason.GpsLost =
+      when
+      (raised (before .raised .«gps_lost»)
+      (held (before .«gps_lost_set») (not (fixed gpsSample)) (cfg .«gps_lost_set_ms»))
+      (held (before .«gps_lost_clear») (fixed gpsSample) (cfg .«gps_lost_clear_ms»)))
+      Action.Land
+  -- no fresh ekf_ok of true; clears with one
+  filed Reason.EkfUnhealthy =
+      when
+      (raised (before .raised .«ekf_unhealthy»)
+      (held (before .«ekf_set») (not ekfOk) (cfg .«ekf_unhealthy_set_ms»))
+      (held (before .«ekf_clear») ekfOk (cfg .«ekf_unhealthy_clear_ms»)))
+      Action.Land
+  -- never: the arbiter shows it where Hold or ReturnToLaunch lacks a valid position
+  filed Reason.PositionInvalid = OptionAction.None
+  -- a valid position inside, nearer to the bounds than fence_approach_m
+  filed Reason.FenceApproach =
+      when (ofPlace place (λ p. le zeroF (p .fence .m) && lt (p .fence .m) (cfg .«fence_approach_m»))) Action.Warn
+  -- a valid position outside; clears from fence_breach_clear_m inside
+  filed Reason.FenceBreach =
+      when
+      (raised (before .raised .«fence_breach»)
+      (held (before .«fence_breach_set») (ofPlace place (λ p. lt (p .fence .m) zeroF)) (cfg .«fence_breach_set_ms»))
+      (held (before .«fence_breach_clear») (ofPlace place (λ p. le (cfg .«fence_breach_clear_m») (p .fence .m))) (cfg .«fence_breach_clear_ms»)))
+      Action.ReturnToLaunch
+  -- a valid position above the upper altitude; under either kind gone at the first step that is not
+  filed Reason.AltitudeMax =
+      when
+      (held (before .«alt_max_set») (ofPlace place (λ p. lt maxAlt (p .«alt_m»))) (cfg .«alt_max_set_ms»)
+      && not (held (before .«alt_max_clear») (ofPlace place (λ p. lt maxAlt (p .«alt_m») && lt (p .«alt_m») (sub binary32 maxAlt (cfg .«alt_max_clear_m»)))) (cfg .«alt_max_clear_hold_ms»)))
+      Action.ReturnToLaunch
+  -- in the air, a valid position below the lower altitude and farther from home than alt_min_home_radius_m; clears alt_min_clear_m above it, or nearer to home
+  filed Reason.AltitudeMin =
+      when
+      (raised (before .raised .«altitude_min»)
+      (held (before .«alt_min_set») (ofPlace place (λ p. lt (p .«alt_m») minAlt && lt (cfg .«alt_min_home_radius_m») (p .«home_dist_m») && flying)) (cfg .«alt_min_set_ms»))
+      (held (before .«alt_min_clear») (ofPlace place (λ p. lt (add binary32 minAlt (cfg .«alt_min_clear_m»)) (p .«alt_m») || le (p .«home_dist_m») (cfg .«alt_min_home_radius_m»))) (cfg .«alt_min_clear_ms»)))
+      Action.Warn
+  -- a fresh charge below battery_warn_pct; clears above battery_warn_clear_pct
+  filed Reason.BatteryWarn =
+      when
+      (raised (before .raised .«battery_warn»)
+      (held (before .«bat_warn_set») (ofValue charge (λ p. lt p (cfg .«battery_warn_pct»))) (cfg .«battery_warn_set_ms»))
+      (held (before .«bat_warn_clear») (ofValue charge (λ p. lt (cfg .«battery_warn_clear_pct») p)) (cfg .«battery_warn_clear_ms»)))
+      Action.Warn
+  -- a fresh charge below battery_low_pct; clears above battery_low_clear_pct
+  filed Reason.BatteryLow =
+      when
+      (raised (before .raised .«battery_low»)
+      (held (before .«bat_low_set») (ofValue charge (λ p. lt p (cfg .«battery_low_pct»))) (cfg .«battery_low_set_ms»))
+      (held (before .«bat_low_clear») (ofValue charge (λ p. lt (cfg .«battery_low_clear_pct») p)) (cfg .«battery_low_clear_ms»)))
+      Action.ReturnToLaunch
+  -- its latch is set, at steps with a fresh charge
+  filed Reason.BatteryCritical = when (isPresent charge && batteryLatch) Action.Land
+  -- a margin from 0 to under energy_marginal_wh; clears above energy_marginal_clear_wh
+  filed Reason.EnergyRtlMarginal =
+      when
+      (raised (before .raised .«energy_rtl_marginal»)
+      (held (before .«energy_marg_set») (ofValue margin (λ m. le zeroF m && lt m (cfg .«energy_marginal_wh»))) (cfg .«energy_marginal_set_ms»))
+      (held (before .«energy_marg_clear») (ofValue margin (λ m. lt (cfg .«energy_marginal_clear_wh») m)) (cfg .«energy_marginal_clear_ms»)))
+      Action.ReturnToLaunch
+  -- its latch is set, at steps with a margin
+  filed Reason.EnergyRtlInfeasible = when (isPresent margin && energyLatch) Action.Land
+
+-- at a faulted step: ClockFault alone
+abbrev pub filedOnFault : Reason → OptionAction
+filedOnFault r = when (eqb (index Reason.ClockFault) (index r)) Action.Warn
+
+-- at a confirmed disarm: nothing
+abbrev pub filedOnDisarm : Reason → OptionAction
+filedOnDisarm r = OptionAction.None

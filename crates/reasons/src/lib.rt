@@ -1,0 +1,1 @@
+// When each reason is filed (specs/Reasons.antt), with no code of its own.
