@@ -1,6 +1,6 @@
 -- The claim of specs/Claim.antt. Assumes nothing.
 use Prim.Native.Nat.{ℕ}
-use mathlib.Core.Bool.{Bool, true, false, false≢true, true≢false}
+use mathlib.Core.Bool.{Bool, true, false, cond, false≢true, true≢false}
 use mathlib.Core.Path.{_≡_, refl, ap, sym, _∙_}
 use lib.Ieee.{Float}
 use Rattle.types.specs.declared.Action.{Action}
@@ -18,84 +18,49 @@ use Rattle.triggers.specs.declared.Raised.{Raised}
 use Rattle.triggers.specs.declared.Families.{Families}
 use Rattle.timers.specs.Timer.{raisedBy}
 use Rattle.triggers.specs.Families.{gps, ekf}
-use Rattle.triggers.specs.Update.{freshTriggers, families, raisedOf, rcLost, linkRequests, fenceRequests, batteryRequests, requests, nextTriggers, update}
+use Rattle.triggers.specs.Update.{noneRaised, freshTriggers, families, raisedOf, rcLost, linkRequests, fenceRequests, batteryRequests, requests, nextTriggers, update}
 use Rattle.clock.specs.Clock.{clockFault, soundClock, byAge, clockStep}
 use Rattle.supervisor.specs.declared.Supervisor.{Supervisor}
 use Rattle.supervisor.specs.Settings.{Settings, Fed}
 use Rattle.supervisor.specs.Step.{sense, disarmedDecision, disarmed, decisionOf, flown, step}
 use Rattle.step_laws.specs.Laws.{clockAt, disarms, restFrom, after}
 use Rattle.step_laws.proofs.Laws.{step-claim}
-use Rattle.reasons.specs.Reasons.{when, filed, filedOnFault, filedOnDisarm, batteryLatch, energyLatch}
-use Rattle.reasons.specs.Claim.{Files, UpdateReasons, UpdateClaim, StepReasons, StepReasonsClaim}
-use Rattle.reasons.proofs.Slots.{empty-files, with-row, files-option, files-if, files-as}
-use Rattle.reasons.proofs.Rows.{pair, invalid-row, stale-row, link-row, rc-row, approach-row, breach-row, max-row, min-row, warn-row, low-row, latch-row, critical-row, marginal-row, short-row, infeasible-row}
+use Rattle.reasons.specs.Reasons.{_when_, isFiled, filed, filedOnFault, filedOnDisarm, batteryLatch, energyLatch, linkStage, raisedNext}
+use Rattle.reasons.specs.Claim.{Files, Left, UpdateReasons, UpdateClaim, StepReasons, StepReasonsClaim}
+use Rattle.reasons.proofs.Slots.{empty-files, files-option, files-if, files-as}
+use Rattle.reasons.proofs.Rows.{pair, invalid-row, stale-row, link-row, stage-row, rc-row, approach-row, breach-row, max-row, min-row, warn-row, low-row, latch-row, critical-row, marginal-row, short-row, infeasible-row}
 
 -- ---- the families' requests, in the Rust's order
 
 module _ (keeps : Bool) (on : Raised) (f : Families) where
-  abbrev links : Reason → OptionAction
-  links =
-      with-row Reason.EkfUnhealthy (when (on .«ekf_unhealthy») Action.Land)
-      (with-row Reason.GpsLost (when (on .«gps_lost») Action.Land)
-      (with-row Reason.GpsDegraded (when (on .«gps_degraded») Action.Warn)
-      (with-row Reason.RcLost (when (rcLost keeps (f .rc)) Action.ReturnToLaunch)
-      (with-row Reason.GcsLinkLost (f .gcs .request)
-      (with-row Reason.InvalidInput (when (f .invalid .active) Action.Warn)
-      filedOnDisarm)))))
-
-  links-filed : Files (linkRequests keeps on f) links
-  unfolding linkRequests
-  links-filed =
-      files-if Reason.EkfUnhealthy (on .«ekf_unhealthy») Action.Land refl
-      (files-if Reason.GpsLost (on .«gps_lost») Action.Land refl
-      (files-if Reason.GpsDegraded (on .«gps_degraded») Action.Warn refl
-      (files-if Reason.RcLost (rcLost keeps (f .rc)) Action.ReturnToLaunch refl
-      (files-option Reason.GcsLinkLost (f .gcs .request) refl
-      (files-if Reason.InvalidInput (f .invalid .active) Action.Warn refl
-      empty-files)))))
-
-  abbrev fences : Reason → OptionAction
-  fences =
-      with-row Reason.AltitudeMin (when (on .«altitude_min») Action.Warn)
-      (with-row Reason.AltitudeMax (when (raisedBy false false (f .fence .«alt_max»)) Action.ReturnToLaunch)
-      (with-row Reason.FenceBreach (when (on .«fence_breach») Action.ReturnToLaunch)
-      (with-row Reason.FenceApproach (when (f .fence .approach) Action.Warn)
-      links)))
-
-  fences-filed : Files (fenceRequests (linkRequests keeps on f) on (f .fence)) fences
-  unfolding fenceRequests
-  fences-filed =
-      files-if Reason.AltitudeMin (on .«altitude_min») Action.Warn refl
-      (files-if Reason.AltitudeMax (raisedBy false false (f .fence .«alt_max»)) Action.ReturnToLaunch refl
-      (files-if Reason.FenceBreach (on .«fence_breach») Action.ReturnToLaunch refl
-      (files-if Reason.FenceApproach (f .fence .approach) Action.Warn refl
-      links-filed)))
-
-  abbrev asked : Reason → OptionAction
-  asked =
-      with-row Reason.EnergyRtlInfeasible (when (f .energy .infeasible) Action.Land)
-      (with-row Reason.EnergyRtlMarginal (when (on .«energy_rtl_marginal») Action.ReturnToLaunch)
-      (with-row Reason.BatteryCritical (when (f .battery .critical) Action.Land)
-      (with-row Reason.BatteryLow (when (on .«battery_low») Action.ReturnToLaunch)
-      (with-row Reason.BatteryWarn (when (on .«battery_warn») Action.Warn)
-      (with-row Reason.StaleBattery (when (f .stale .stale) Action.ReturnToLaunch)
-      fences)))))
-
-  asked-filed : Files (requests keeps on f) asked
-  unfolding requests batteryRequests
-  asked-filed =
-      files-if Reason.EnergyRtlInfeasible (f .energy .infeasible) Action.Land refl
-      (files-if Reason.EnergyRtlMarginal (on .«energy_rtl_marginal») Action.ReturnToLaunch refl
-      (files-if Reason.BatteryCritical (f .battery .critical) Action.Land refl
-      (files-if Reason.BatteryLow (on .«battery_low») Action.ReturnToLaunch refl
-      (files-if Reason.BatteryWarn (on .«battery_warn») Action.Warn refl
-      (files-if Reason.StaleBattery (f .stale .stale) Action.ReturnToLaunch refl
-      fences-filed)))))
+  -- a rule by which they are filed, made as they are; `rows` below says what it comes to
+  requests-filed : (rule : Reason → OptionAction) × Files (requests keeps on f) rule
+  unfolding requests linkRequests fenceRequests batteryRequests
+  requests-filed = (
+    _,
+    files-if Reason.EnergyRtlInfeasible (f .energy .infeasible) Action.Land refl
+        (files-if Reason.EnergyRtlMarginal (on .«energy_rtl_marginal») Action.ReturnToLaunch refl
+        (files-if Reason.BatteryCritical (f .battery .critical) Action.Land refl
+        (files-if Reason.BatteryLow (on .«battery_low») Action.ReturnToLaunch refl
+        (files-if Reason.BatteryWarn (on .«battery_warn») Action.Warn refl
+        (files-if Reason.StaleBattery (f .stale .stale) Action.ReturnToLaunch refl
+        (files-if Reason.AltitudeMin (on .«altitude_min») Action.Warn refl
+        (files-if Reason.AltitudeMax (raisedBy false false (f .fence .«alt_max»)) Action.ReturnToLaunch refl
+        (files-if Reason.FenceBreach (on .«fence_breach») Action.ReturnToLaunch refl
+        (files-if Reason.FenceApproach (f .fence .approach) Action.Warn refl
+        (files-if Reason.EkfUnhealthy (on .«ekf_unhealthy») Action.Land refl
+        (files-if Reason.GpsLost (on .«gps_lost») Action.Land refl
+        (files-if Reason.GpsDegraded (on .«gps_degraded») Action.Warn refl
+        (files-if Reason.RcLost (rcLost keeps (f .rc)) Action.ReturnToLaunch refl
+        (files-option Reason.GcsLinkLost (f .gcs .request) refl
+        (files-if Reason.InvalidInput (f .invalid .active) Action.Warn refl
+        empty-files))))))))))))))),
+  )
 
 -- ---- row by row
 
-when-same : {a b : Bool} (act : Action) → a ≡ b → when a act ≡ when b act
-when-same act e = ap (λ (x : Bool). when x act) e
+when-same : {a b : Bool} (act : Action) → a ≡ b → (act when a) ≡ (act when b)
+when-same act e = ap (λ (x : Bool). act when x) e
 
 module _ (ck : Clock) (s : TriggerState) (t : Telemetry) (cfg : Config) (lo hi : Float) (place : OptionPlace) (margin : OptionF32) (invalid : Bool) where
   abbrev f : Families
@@ -104,8 +69,8 @@ module _ (ck : Clock) (s : TriggerState) (t : Telemetry) (cfg : Config) (lo hi :
   abbrev on : Raised
   on = raisedOf (cfg .«keeps_raised») (s .raised) f
 
-  rows : (q : Reason) → asked (cfg .«keeps_raised») on f q ≡ filed ck s t cfg lo hi place margin invalid q
-  unfolding filed batteryLatch energyLatch families raisedOf gps ekf
+  rows : (q : Reason) → requests-filed (cfg .«keeps_raised») on f .0 q ≡ filed ck s t cfg lo hi place margin invalid q
+  unfolding requests-filed filed batteryLatch energyLatch families raisedOf gps ekf
   rows Reason.None = refl
   rows Reason.ClockFault = refl
   rows Reason.InvalidInput = when-same Action.Warn (invalid-row ck (t .«now_ms») cfg _ _ invalid _)
@@ -128,7 +93,7 @@ module _ (ck : Clock) (s : TriggerState) (t : Telemetry) (cfg : Config) (lo hi :
 
   sound-filed : Files (update ck s t cfg lo hi place margin invalid false .active) (filed ck s t cfg lo hi place margin invalid)
   unfolding update
-  sound-filed = files-as rows (asked-filed (cfg .«keeps_raised») on f)
+  sound-filed = files-as rows (requests-filed (cfg .«keeps_raised») on f .1)
 
   fault-filed : Files (update ck s t cfg lo hi place margin invalid true .active) filedOnFault
   unfolding update
@@ -142,13 +107,61 @@ module _ (ck : Clock) (s : TriggerState) (t : Telemetry) (cfg : Config) (lo hi :
   unfolding update families nextTriggers energyLatch
   energy-latched = short-row ck (t .«now_ms») cfg s margin
 
+  stage-left : update ck s t cfg lo hi place margin invalid false .triggers .«gcs_stage» ≡ linkStage ck s t cfg lo hi place margin invalid
+  unfolding update families nextTriggers linkStage
+  stage-left = stage-row ck (t .«now_ms») cfg _ _ _
+
+  -- what was asked for is what is filed
+  asked-is : (q : Reason) (b : Bool) (a : Action) → (a when b) ≡ filed ck s t cfg lo hi place margin invalid q → b ≡ isFiled (filed ck s t cfg lo hi place margin invalid q)
+  asked-is q b a e = at b ∙ ap isFiled e
+    where
+      at : (b : Bool) → b ≡ isFiled (a when b)
+      at true = refl
+      at false = refl
+
+  invalid-left : update ck s t cfg lo hi place margin invalid false .triggers .«invalid_active» ≡ isFiled (filed ck s t cfg lo hi place margin invalid Reason.InvalidInput)
+  unfolding update nextTriggers requests-filed
+  invalid-left = asked-is Reason.InvalidInput (f .invalid .active) Action.Warn (rows Reason.InvalidInput)
+
+  raised-left : update ck s t cfg lo hi place margin invalid false .triggers .raised ≡ raisedNext ck s t cfg lo hi place margin invalid
+  unfolding update nextTriggers raisedNext requests-filed
+  raised-left = ap (λ (x : Raised). cond (cfg .«keeps_raised») x noneRaised) same
+    where
+      same : on ≡ record {
+        «gps_degraded» = isFiled (filed ck s t cfg lo hi place margin invalid Reason.GpsDegraded);
+        «gps_lost» = isFiled (filed ck s t cfg lo hi place margin invalid Reason.GpsLost);
+        «ekf_unhealthy» = isFiled (filed ck s t cfg lo hi place margin invalid Reason.EkfUnhealthy);
+        «fence_breach» = isFiled (filed ck s t cfg lo hi place margin invalid Reason.FenceBreach);
+        «altitude_min» = isFiled (filed ck s t cfg lo hi place margin invalid Reason.AltitudeMin);
+        «battery_warn» = isFiled (filed ck s t cfg lo hi place margin invalid Reason.BatteryWarn);
+        «battery_low» = isFiled (filed ck s t cfg lo hi place margin invalid Reason.BatteryLow);
+        «energy_rtl_marginal» = isFiled (filed ck s t cfg lo hi place margin invalid Reason.EnergyRtlMarginal);
+      }
+      same = λ i. record {
+        «gps_degraded» = asked-is Reason.GpsDegraded (on .«gps_degraded») Action.Warn (rows Reason.GpsDegraded) i;
+        «gps_lost» = asked-is Reason.GpsLost (on .«gps_lost») Action.Land (rows Reason.GpsLost) i;
+        «ekf_unhealthy» = asked-is Reason.EkfUnhealthy (on .«ekf_unhealthy») Action.Land (rows Reason.EkfUnhealthy) i;
+        «fence_breach» = asked-is Reason.FenceBreach (on .«fence_breach») Action.ReturnToLaunch (rows Reason.FenceBreach) i;
+        «altitude_min» = asked-is Reason.AltitudeMin (on .«altitude_min») Action.Warn (rows Reason.AltitudeMin) i;
+        «battery_warn» = asked-is Reason.BatteryWarn (on .«battery_warn») Action.Warn (rows Reason.BatteryWarn) i;
+        «battery_low» = asked-is Reason.BatteryLow (on .«battery_low») Action.ReturnToLaunch (rows Reason.BatteryLow) i;
+        «energy_rtl_marginal» = asked-is Reason.EnergyRtlMarginal (on .«energy_rtl_marginal») Action.ReturnToLaunch (rows Reason.EnergyRtlMarginal) i;
+      }
+
+  left : Left ck s t cfg lo hi place margin invalid (update ck s t cfg lo hi place margin invalid false .triggers)
+  left = record { battery-latch = battery-latched; energy-latch = energy-latched; link-stage = stage-left; invalid-active = invalid-left; raised-next = raised-left }
+
+  fault-leaves : update ck s t cfg lo hi place margin invalid true .triggers ≡ s
+  unfolding update
+  fault-leaves = refl
+
 pub update-reasons : UpdateClaim
 update-reasons ck s t cfg lo hi place margin invalid =
     record {
       sound = sound-filed ck s t cfg lo hi place margin invalid;
-      battery-latch = battery-latched ck s t cfg lo hi place margin invalid;
-      energy-latch = energy-latched ck s t cfg lo hi place margin invalid;
+      sound-left = left ck s t cfg lo hi place margin invalid;
       fault = fault-filed ck s t cfg lo hi place margin invalid;
+      fault-left = fault-leaves ck s t cfg lo hi place margin invalid;
     }
 
 -- ---- a whole step
@@ -159,13 +172,9 @@ module _ (ck : Clock) (s : TriggerState) (t : Telemetry) (cfg : Config) (lo hi :
   sound-at true e = absurd (true≢false e)
   sound-at false e = sound-filed ck s t cfg lo hi place margin invalid
 
-  battery-at : (fault : Bool) → fault ≡ false → update ck s t cfg lo hi place margin invalid fault .triggers .«battery_critical_latched» ≡ batteryLatch ck s t cfg lo hi place margin invalid
-  battery-at true e = absurd (true≢false e)
-  battery-at false e = battery-latched ck s t cfg lo hi place margin invalid
-
-  energy-at : (fault : Bool) → fault ≡ false → update ck s t cfg lo hi place margin invalid fault .triggers .«energy_infeasible_latched» ≡ energyLatch ck s t cfg lo hi place margin invalid
-  energy-at true e = absurd (true≢false e)
-  energy-at false e = energy-latched ck s t cfg lo hi place margin invalid
+  left-at : (fault : Bool) → fault ≡ false → Left ck s t cfg lo hi place margin invalid (update ck s t cfg lo hi place margin invalid fault .triggers)
+  left-at true e = absurd (true≢false e)
+  left-at false e = left ck s t cfg lo hi place margin invalid
 
   fault-at : (fault : Bool) → fault ≡ true → Files (update ck s t cfg lo hi place margin invalid fault .active) filedOnFault
   fault-at true e = fault-filed ck s t cfg lo hi place margin invalid
@@ -204,8 +213,7 @@ module _ (r : Settings) (s : Supervisor) (fed : Fed) where
   step-reasons-at =
       record {
         sound = λ f d. rw (from-state f d) (sound-at _ _ _ _ _ _ _ _ _ _ f);
-        battery-latch = λ f d. rw (after, from-state f d) (battery-at _ _ _ _ _ _ _ _ _ _ f);
-        energy-latch = λ f d. rw (after, from-state f d) (energy-at _ _ _ _ _ _ _ _ _ _ f);
+        sound-left = λ f d. rw (after, from-state f d) (left-at _ _ _ _ _ _ _ _ _ _ f);
         fault = faulted;
         disarm = disarmed-files;
         disarm-latches = disarmed-latches;

@@ -18,7 +18,7 @@ use Rattle.triggers.specs.declared.OptionPlace.{OptionPlace}
 use Rattle.triggers.specs.declared.TriggerState.{TriggerState}
 use Rattle.triggers.specs.Families.{invalidInput, gcsAge, stageRequest, gcsStage, gcsClearing, gcsLink, rcLink, fenceApproach, fenceBreach, altitudeMax, altitudeMin, fence, isPresent, lowVoltage, staleBattery, batteryWarn, batteryLow, batteryCritical, battery, energyMarginal, energy}
 use Rattle.triggers.specs.Update.{rcLost}
-use Rattle.reasons.specs.Reasons.{when, heldFor, raisedFrom, ofValue, ofPlace}
+use Rattle.reasons.specs.Reasons.{heldFor, raisedFrom, ofValue, ofPlace}
 
 or-false : (b : Bool) → b ≡ (b || false)
 or-false true = refl
@@ -80,6 +80,27 @@ module _ (ck : Clock) (now : ℕ) where
         at false true warn good = refl
         at false false true good = refl
         at false false false true = turned (heldFor ck now clear true (cfg .«gcs_clear_hold_ms»))
+        at false false false false = refl
+
+    pub stage-row : (clear : Timer) (stage : ℕ) (beat : OptionU32)
+        → gcsLink ck clear stage now beat cfg .stage
+        ≡ cond (ltb (cfg .«gcs_rtl_ms») (gcsAge ck now beat)) 3
+        (cond (ltb (cfg .«gcs_hold_ms») (gcsAge ck now beat)) 2
+        (cond (ltb (cfg .«gcs_warn_ms») (gcsAge ck now beat)) 1
+        (cond (leb (gcsAge ck now beat) (cfg .«gcs_clear_ms») && heldFor ck now clear true (cfg .«gcs_clear_hold_ms»)) 0
+        stage)))
+    unfolding gcsLink gcsStage gcsClearing heldSet
+    stage-row clear stage beat =
+        at (ltb (cfg .«gcs_rtl_ms») (gcsAge ck now beat)) (ltb (cfg .«gcs_hold_ms») (gcsAge ck now beat)) (ltb (cfg .«gcs_warn_ms») (gcsAge ck now beat)) (leb (gcsAge ck now beat) (cfg .«gcs_clear_ms»))
+      where
+        at : (rtl hold warn good : Bool)
+            → cond rtl (gcsStage clear 3) (cond hold (gcsStage clear 2) (cond warn (gcsStage clear 1)
+            (cond good (gcsClearing ck clear stage now (cfg .«gcs_clear_hold_ms»)) (record { «clear_timer» = cleared; stage = stage; request = OptionAction.None })))) .stage
+            ≡ cond rtl 3 (cond hold 2 (cond warn 1 (cond (good && heldFor ck now clear true (cfg .«gcs_clear_hold_ms»)) 0 stage)))
+        at true hold warn good = refl
+        at false true warn good = refl
+        at false false true good = refl
+        at false false false true = refl
         at false false false false = refl
 
     -- the hand controller: while it is bad its set timer is pending, and its clear timer has not held

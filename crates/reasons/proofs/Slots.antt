@@ -16,7 +16,7 @@ use Rattle.types.specs.Numbers.{index}
 use Rattle.types.specs.ActiveSet.{noRequest, slotOf, emptySet, setRequest}
 use Rattle.types.proofs.Slots.{index-lt, index-tells}
 use Rattle.triggers.specs.Update.{setIf, setOption}
-use Rattle.reasons.specs.Reasons.{when, filedOnDisarm}
+use Rattle.reasons.specs.Reasons.{_when_, filedOnDisarm}
 use Rattle.reasons.specs.Claim.{slotFor, Files}
 
 pub empty-files : Files emptySet filedOnDisarm
@@ -43,7 +43,7 @@ files-option {s} {rule} r (OptionAction.Some a) free f =
         (getD-set-same (s .reqs) (index r) (slotOf r a) noRequest (let c = f .count in let l = index-lt r in omega arith))
     at q false e = getD-set-other (s .reqs) (index r) (index q) (slotOf r a) noRequest (λ i. eqb-false _ _ e (sym i)) ∙ f .slot q
 
-pub files-if : {s : ActiveSet} {rule : Reason → OptionAction} (r : Reason) (on : Bool) (a : Action) → rule r ≡ OptionAction.None → Files s rule → Files (setIf s on r a) (with-row r (when on a) rule)
+pub files-if : {s : ActiveSet} {rule : Reason → OptionAction} (r : Reason) (on : Bool) (a : Action) → rule r ≡ OptionAction.None → Files s rule → Files (setIf s on r a) (with-row r (a when on) rule)
 files-if r true a free f = files-option r (OptionAction.Some a) free f
 files-if r false a free f = files-option r OptionAction.None free f
 

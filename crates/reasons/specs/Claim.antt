@@ -20,12 +20,13 @@ use Rattle.validate.specs.Glitch.{applyGlitchFilter}
 use Rattle.validate.specs.Fresh.{positionValid, freshRemainingWh}
 use Rattle.triggers.specs.declared.OptionPlace.{OptionPlace}
 use Rattle.triggers.specs.declared.TriggerState.{TriggerState}
+use Rattle.triggers.specs.declared.Updated.{Updated}
 use Rattle.triggers.specs.Update.{update}
 use Rattle.supervisor.specs.declared.Supervisor.{Supervisor}
 use Rattle.supervisor.specs.Settings.{Settings, Fed}
 use Rattle.supervisor.specs.Step.{placeOf, validPlace, energyAt, marginAt, step}
 use Rattle.step_laws.specs.Laws.{clockAt, validated, disarms, after}
-use Rattle.reasons.specs.Reasons.{filed, filedOnFault, filedOnDisarm, batteryLatch, energyLatch}
+use Rattle.reasons.specs.Reasons.{isFiled, filed, filedOnFault, filedOnDisarm, batteryLatch, energyLatch, linkStage, raisedNext}
 
 -- a reason's slot: present with the action, or absent
 abbrev pub slotFor : Reason → OptionAction → Slot
@@ -40,11 +41,22 @@ pub record Files (s : ActiveSet) (rule : Reason → OptionAction) : Type 0 where
 -- ---- a step of the triggers, on any readings
 
 module _ (clock : Clock) (before : TriggerState) (t : Telemetry) (cfg : Config) (minAlt maxAlt : Float) (place : OptionPlace) (margin : OptionF32) (invalid : Bool) where
+  -- the latches, the link's stage and what is raised after a sound step
+  pub record Left (s : TriggerState) : Type 0 where
+    pub battery-latch : s .«battery_critical_latched» ≡ batteryLatch clock before t cfg minAlt maxAlt place margin invalid
+    pub energy-latch : s .«energy_infeasible_latched» ≡ energyLatch clock before t cfg minAlt maxAlt place margin invalid
+    pub link-stage : s .«gcs_stage» ≡ linkStage clock before t cfg minAlt maxAlt place margin invalid
+    pub invalid-active : s .«invalid_active» ≡ isFiled (filed clock before t cfg minAlt maxAlt place margin invalid Reason.InvalidInput)
+    pub raised-next : s .raised ≡ raisedNext clock before t cfg minAlt maxAlt place margin invalid
+
+  abbrev updated : Bool → Updated
+  updated = update clock before t cfg minAlt maxAlt place margin invalid
+
   pub record UpdateReasons : Type 0 where
-    pub sound : Files (update clock before t cfg minAlt maxAlt place margin invalid false .active) (filed clock before t cfg minAlt maxAlt place margin invalid)
-    pub battery-latch : update clock before t cfg minAlt maxAlt place margin invalid false .triggers .«battery_critical_latched» ≡ batteryLatch clock before t cfg minAlt maxAlt place margin invalid
-    pub energy-latch : update clock before t cfg minAlt maxAlt place margin invalid false .triggers .«energy_infeasible_latched» ≡ energyLatch clock before t cfg minAlt maxAlt place margin invalid
-    pub fault : Files (update clock before t cfg minAlt maxAlt place margin invalid true .active) filedOnFault
+    pub sound : Files (updated false .active) (filed clock before t cfg minAlt maxAlt place margin invalid)
+    pub sound-left : Left (updated false .triggers)
+    pub fault : Files (updated true .active) filedOnFault
+    pub fault-left : updated true .triggers ≡ before
 
 abbrev pub UpdateClaim : Type 0
 UpdateClaim =
@@ -82,10 +94,8 @@ module _ (r : Settings) (s : Supervisor) (fed : Fed) where
     -- at a sound step that is no confirmed disarm, by the rows
     pub sound : clockAt r s fed .fault ≡ false → disarms r s fed ≡ false
         → Files (step r s fed .decision .active) (filed (r .clock) (s .triggers) (validated r s fed) (r .cfg) (fed .site .minAlt) (fed .site .maxAlt) validPlaceAt marginLeft invalidAt)
-    pub battery-latch : clockAt r s fed .fault ≡ false → disarms r s fed ≡ false
-        → after r s fed .triggers .«battery_critical_latched» ≡ batteryLatch (r .clock) (s .triggers) (validated r s fed) (r .cfg) (fed .site .minAlt) (fed .site .maxAlt) validPlaceAt marginLeft invalidAt
-    pub energy-latch : clockAt r s fed .fault ≡ false → disarms r s fed ≡ false
-        → after r s fed .triggers .«energy_infeasible_latched» ≡ energyLatch (r .clock) (s .triggers) (validated r s fed) (r .cfg) (fed .site .minAlt) (fed .site .maxAlt) validPlaceAt marginLeft invalidAt
+    pub sound-left : clockAt r s fed .fault ≡ false → disarms r s fed ≡ false
+        → Left (r .clock) (s .triggers) (validated r s fed) (r .cfg) (fed .site .minAlt) (fed .site .maxAlt) validPlaceAt marginLeft invalidAt (after r s fed .triggers)
     -- at a faulted one ClockFault alone
     pub fault : clockAt r s fed .fault ≡ true → disarms r s fed ≡ false → Files (step r s fed .decision .active) filedOnFault
     -- at a confirmed disarm, faulted or not, nothing; and no latch is left

@@ -21,13 +21,20 @@ use Rattle.validate.specs.Fresh.{freshTrue, freshLanded, freshGps, freshBattery
 use Rattle.triggers.specs.declared.Place.{Place}
 use Rattle.triggers.specs.declared.OptionPlace.{OptionPlace}
 use Rattle.triggers.specs.declared.TriggerState.{TriggerState}
+use Rattle.triggers.specs.declared.Raised.{Raised}
 use Rattle.triggers.specs.Families.{gcsAge, stageRequest, degraded, recovered, fixed, inAir, isPresent, lowVoltage}
+use Rattle.triggers.specs.Update.{noneRaised}
 
+infix 10 _when_
 -- ---- the words of the rows
 
 -- filed with an action where a test holds, and else not
-abbrev pub when : Bool → Action → OptionAction
-when test a = cond test (OptionAction.Some a) OptionAction.None
+abbrev pub _when_ : Action → Bool → OptionAction
+_when_ a test = cond test (OptionAction.Some a) OptionAction.None
+
+abbrev pub isFiled : OptionAction → Bool
+isFiled OptionAction.None = false
+isFiled (OptionAction.Some a) = true
 
 -- a test that holds at this step and has held for `ms`: since its timer started, which is now where it had not
 abbrev pub heldFor : Clock → ℕ → Timer → Bool → ℕ → Bool
@@ -82,7 +89,7 @@ module _ (clock : Clock) (before : TriggerState) (t : Telemetry) (cfg : Config) 
   abbrev pub linkAge : ℕ
   linkAge = gcsAge clock (t .«now_ms») (t .«gcs_heartbeat_ms»)
 
-  -- set once a fresh charge has been below battery_critical_pct, or the voltage below that of all cells, for battery_critical_set_ms; counts only steps with a fresh charge
+  -- set once, at steps with a fresh charge, that has been below battery_critical_pct or a fresh voltage below battery_critical_v_per_cell a cell, for battery_critical_set_ms
   unfoldable pub batteryLatch : Bool
   batteryLatch =
       before .«battery_critical_latched»
@@ -94,17 +101,18 @@ module _ (clock : Clock) (before : TriggerState) (t : Telemetry) (cfg : Config) 
       before .«energy_infeasible_latched»
       || held (before .«energy_infeas_set») (ofValue margin (λ m. lt m zeroF)) (cfg .«energy_infeasible_set_ms»)
 
+  -- the eight that are `raised`: the first test has held; under kind 11 they then stay until the second has
   unfoldable pub filed : Reason → OptionAction
   -- never
   filed Reason.None = OptionAction.None
   -- at a faulted step only, and then alone
   filed Reason.ClockFault = OptionAction.None
-  -- a reading is out of bounds; or one was, and since then none for less than invalid_input_clear_ms
+  -- a reading is out of bounds, or one was and for less than invalid_input_clear_ms none has been
   filed Reason.InvalidInput =
-      when (invalid || (before .«invalid_active» && not (held (before .«invalid_clear») true (cfg .«invalid_input_clear_ms»)))) Action.Warn
+      Action.Warn when invalid || (before .«invalid_active» && not (held (before .«invalid_clear») true (cfg .«invalid_input_clear_ms»)))
   -- neither a fresh voltage nor a fresh charge
-  filed Reason.StaleBattery = when (not (isPresent voltage || isPresent charge)) Action.ReturnToLaunch
-  -- the heartbeat is older than a limit; or it is no older than gcs_clear_ms, has not been so for gcs_clear_hold_ms, and the stage still asks for what it did
+  filed Reason.StaleBattery = Action.ReturnToLaunch when not (isPresent voltage || isPresent charge)
+  -- a heartbeat older than a limit: the action of the greatest. At most gcs_clear_ms old: what the stage before asks for, until that has held for gcs_clear_hold_ms.
   filed Reason.GcsLinkLost =
       cond (ltb (cfg .«gcs_rtl_ms») linkAge) (OptionAction.Some Action.ReturnToLaunch)
       (cond (ltb (cfg .«gcs_hold_ms») linkAge) (OptionAction.Some Action.Hold)
@@ -114,82 +122,94 @@ module _ (clock : Clock) (before : TriggerState) (t : Telemetry) (cfg : Config) 
   -- the hand controller is required and there is no fresh rc_ok of true. Kind 1: from the first such step; kind 11: once that has held for rc_lost_set_ms.
   filed Reason.RcLost =
       let lost = cfg .«rc_required» && not rcOk in
-      when (cond (cfg .«keeps_raised») (held (before .«rc_lost_set») lost (cfg .«rc_lost_set_ms»)) lost) Action.ReturnToLaunch
-  -- no fresh sample, or fewer than 8 satellites or hdop above 2.5, or either not told; clears with 10 satellites and hdop at most 2
+      Action.ReturnToLaunch when cond (cfg .«keeps_raised») (held (before .«rc_lost_set») lost (cfg .«rc_lost_set_ms»)) lost
+  -- no fresh sample, fewer than 8 satellites or hdop above 2.5, or either not told, for gps_degraded_set_ms; until 10 satellites and hdop at most 2 for gps_degraded_clear_ms
   filed Reason.GpsDegraded =
-      when
-      (raised (before .raised .«gps_degraded»)
+      Action.Warn when raised (before .raised .«gps_degraded»)
       (held (before .«gps_deg_set») (degraded gpsSample) (cfg .«gps_degraded_set_ms»))
-      (held (before .«gps_deg_clear») (recovered gpsSample) (cfg .«gps_degraded_clear_ms»)))
-      Action.Warn
-  -- no fresh sample with a fix in three dimensions; clears with one
+      (held (before .«gps_deg_clear») (recovered gpsSample) (cfg .«gps_degraded_clear_ms»))
+  -- no fresh sample with a fix in three dimensions for gps_lost_set_ms; until one for gps_lost_clear_ms
   filed Reason.GpsLost =
-      when
-      (raised (before .raised .«gps_lost»)
+      Action.Land when raised (before .raised .«gps_lost»)
       (held (before .«gps_lost_set») (not (fixed gpsSample)) (cfg .«gps_lost_set_ms»))
-      (held (before .«gps_lost_clear») (fixed gpsSample) (cfg .«gps_lost_clear_ms»)))
-      Action.Land
-  -- no fresh ekf_ok of true; clears with one
+      (held (before .«gps_lost_clear») (fixed gpsSample) (cfg .«gps_lost_clear_ms»))
+  -- no fresh ekf_ok of true for ekf_unhealthy_set_ms; until one for ekf_unhealthy_clear_ms
   filed Reason.EkfUnhealthy =
-      when
-      (raised (before .raised .«ekf_unhealthy»)
+      Action.Land when raised (before .raised .«ekf_unhealthy»)
       (held (before .«ekf_set») (not ekfOk) (cfg .«ekf_unhealthy_set_ms»))
-      (held (before .«ekf_clear») ekfOk (cfg .«ekf_unhealthy_clear_ms»)))
-      Action.Land
+      (held (before .«ekf_clear») ekfOk (cfg .«ekf_unhealthy_clear_ms»))
   -- never: the arbiter shows it where Hold or ReturnToLaunch lacks a valid position
   filed Reason.PositionInvalid = OptionAction.None
   -- a valid position inside, nearer to the bounds than fence_approach_m
   filed Reason.FenceApproach =
-      when (ofPlace place (λ p. le zeroF (p .fence .m) && lt (p .fence .m) (cfg .«fence_approach_m»))) Action.Warn
-  -- a valid position outside; clears from fence_breach_clear_m inside
+      Action.Warn when ofPlace place (λ p. le zeroF (p .fence .m) && lt (p .fence .m) (cfg .«fence_approach_m»))
+  -- a valid position outside for fence_breach_set_ms; until one at least fence_breach_clear_m inside for fence_breach_clear_ms
   filed Reason.FenceBreach =
-      when
-      (raised (before .raised .«fence_breach»)
+      Action.ReturnToLaunch when raised (before .raised .«fence_breach»)
       (held (before .«fence_breach_set») (ofPlace place (λ p. lt (p .fence .m) zeroF)) (cfg .«fence_breach_set_ms»))
-      (held (before .«fence_breach_clear») (ofPlace place (λ p. le (cfg .«fence_breach_clear_m») (p .fence .m))) (cfg .«fence_breach_clear_ms»)))
-      Action.ReturnToLaunch
-  -- a valid position above the upper altitude; under either kind gone at the first step that is not
+      (held (before .«fence_breach_clear») (ofPlace place (λ p. le (cfg .«fence_breach_clear_m») (p .fence .m))) (cfg .«fence_breach_clear_ms»))
+  -- a valid position above the upper altitude for alt_max_set_ms; under both kinds gone at the first step without. One that is also below it by alt_max_clear_m,
+  -- for which alt_max_clear_m must be below 0, for alt_max_clear_hold_ms: not filed.
   filed Reason.AltitudeMax =
-      when
-      (held (before .«alt_max_set») (ofPlace place (λ p. lt maxAlt (p .«alt_m»))) (cfg .«alt_max_set_ms»)
-      && not (held (before .«alt_max_clear») (ofPlace place (λ p. lt maxAlt (p .«alt_m») && lt (p .«alt_m») (sub binary32 maxAlt (cfg .«alt_max_clear_m»)))) (cfg .«alt_max_clear_hold_ms»)))
-      Action.ReturnToLaunch
-  -- in the air, a valid position below the lower altitude and farther from home than alt_min_home_radius_m; clears alt_min_clear_m above it, or nearer to home
+      Action.ReturnToLaunch when
+      held (before .«alt_max_set») (ofPlace place (λ p. lt maxAlt (p .«alt_m»))) (cfg .«alt_max_set_ms»)
+      && not (held (before .«alt_max_clear») (ofPlace place (λ p. lt maxAlt (p .«alt_m») && lt (p .«alt_m») (sub binary32 maxAlt (cfg .«alt_max_clear_m»)))) (cfg .«alt_max_clear_hold_ms»))
+  -- a valid position below the lower altitude, farther from home than alt_min_home_radius_m, and a fresh landed of InAir, for alt_min_set_ms; until one more than
+  -- alt_min_clear_m above it, or no farther from home, for alt_min_clear_ms
   filed Reason.AltitudeMin =
-      when
-      (raised (before .raised .«altitude_min»)
+      Action.Warn when raised (before .raised .«altitude_min»)
       (held (before .«alt_min_set») (ofPlace place (λ p. lt (p .«alt_m») minAlt && lt (cfg .«alt_min_home_radius_m») (p .«home_dist_m») && flying)) (cfg .«alt_min_set_ms»))
-      (held (before .«alt_min_clear») (ofPlace place (λ p. lt (add binary32 minAlt (cfg .«alt_min_clear_m»)) (p .«alt_m») || le (p .«home_dist_m») (cfg .«alt_min_home_radius_m»))) (cfg .«alt_min_clear_ms»)))
-      Action.Warn
-  -- a fresh charge below battery_warn_pct; clears above battery_warn_clear_pct
+      (held (before .«alt_min_clear») (ofPlace place (λ p. lt (add binary32 minAlt (cfg .«alt_min_clear_m»)) (p .«alt_m») || le (p .«home_dist_m») (cfg .«alt_min_home_radius_m»))) (cfg .«alt_min_clear_ms»))
+  -- a fresh charge below battery_warn_pct for battery_warn_set_ms; until one above battery_warn_clear_pct for battery_warn_clear_ms
   filed Reason.BatteryWarn =
-      when
-      (raised (before .raised .«battery_warn»)
+      Action.Warn when raised (before .raised .«battery_warn»)
       (held (before .«bat_warn_set») (ofValue charge (λ p. lt p (cfg .«battery_warn_pct»))) (cfg .«battery_warn_set_ms»))
-      (held (before .«bat_warn_clear») (ofValue charge (λ p. lt (cfg .«battery_warn_clear_pct») p)) (cfg .«battery_warn_clear_ms»)))
-      Action.Warn
-  -- a fresh charge below battery_low_pct; clears above battery_low_clear_pct
+      (held (before .«bat_warn_clear») (ofValue charge (λ p. lt (cfg .«battery_warn_clear_pct») p)) (cfg .«battery_warn_clear_ms»))
+  -- a fresh charge below battery_low_pct for battery_low_set_ms; until one above battery_low_clear_pct for battery_low_clear_ms
   filed Reason.BatteryLow =
-      when
-      (raised (before .raised .«battery_low»)
+      Action.ReturnToLaunch when raised (before .raised .«battery_low»)
       (held (before .«bat_low_set») (ofValue charge (λ p. lt p (cfg .«battery_low_pct»))) (cfg .«battery_low_set_ms»))
-      (held (before .«bat_low_clear») (ofValue charge (λ p. lt (cfg .«battery_low_clear_pct») p)) (cfg .«battery_low_clear_ms»)))
-      Action.ReturnToLaunch
-  -- its latch is set, at steps with a fresh charge
-  filed Reason.BatteryCritical = when (isPresent charge && batteryLatch) Action.Land
-  -- a margin from 0 to under energy_marginal_wh; clears above energy_marginal_clear_wh
+      (held (before .«bat_low_clear») (ofValue charge (λ p. lt (cfg .«battery_low_clear_pct») p)) (cfg .«battery_low_clear_ms»))
+  -- its latch is set after the step, and the step has a fresh charge
+  filed Reason.BatteryCritical = Action.Land when isPresent charge && batteryLatch
+  -- a margin from 0 to under energy_marginal_wh for energy_marginal_set_ms; until one above energy_marginal_clear_wh for energy_marginal_clear_ms
   filed Reason.EnergyRtlMarginal =
-      when
-      (raised (before .raised .«energy_rtl_marginal»)
+      Action.ReturnToLaunch when raised (before .raised .«energy_rtl_marginal»)
       (held (before .«energy_marg_set») (ofValue margin (λ m. le zeroF m && lt m (cfg .«energy_marginal_wh»))) (cfg .«energy_marginal_set_ms»))
-      (held (before .«energy_marg_clear») (ofValue margin (λ m. lt (cfg .«energy_marginal_clear_wh») m)) (cfg .«energy_marginal_clear_ms»)))
-      Action.ReturnToLaunch
-  -- its latch is set, at steps with a margin
-  filed Reason.EnergyRtlInfeasible = when (isPresent margin && energyLatch) Action.Land
+      (held (before .«energy_marg_clear») (ofValue margin (λ m. lt (cfg .«energy_marginal_clear_wh») m)) (cfg .«energy_marginal_clear_ms»))
+  -- its latch is set after the step, and the step has a margin
+  filed Reason.EnergyRtlInfeasible = Action.Land when isPresent margin && energyLatch
+
+  -- ---- what the next step's rows read, besides the timers
+
+  -- the stage of the link: by the limit that the heartbeat is older than; 0 once it has been at most gcs_clear_ms old for gcs_clear_hold_ms
+  unfoldable pub linkStage : ℕ
+  linkStage =
+      cond (ltb (cfg .«gcs_rtl_ms») linkAge) 3
+      (cond (ltb (cfg .«gcs_hold_ms») linkAge) 2
+      (cond (ltb (cfg .«gcs_warn_ms») linkAge) 1
+      (cond (leb linkAge (cfg .«gcs_clear_ms») && held (before .«gcs_clear_timer») true (cfg .«gcs_clear_hold_ms»)) 0
+      (before .«gcs_stage»))))
+
+  -- under kind 11 whether each of the eight is filed at this step; nothing under kind 1
+  unfoldable pub raisedNext : Raised
+  raisedNext =
+      cond (cfg .«keeps_raised»)
+      (record {
+        «gps_degraded» = isFiled (filed Reason.GpsDegraded);
+        «gps_lost» = isFiled (filed Reason.GpsLost);
+        «ekf_unhealthy» = isFiled (filed Reason.EkfUnhealthy);
+        «fence_breach» = isFiled (filed Reason.FenceBreach);
+        «altitude_min» = isFiled (filed Reason.AltitudeMin);
+        «battery_warn» = isFiled (filed Reason.BatteryWarn);
+        «battery_low» = isFiled (filed Reason.BatteryLow);
+        «energy_rtl_marginal» = isFiled (filed Reason.EnergyRtlMarginal);
+      })
+      noneRaised
 
 -- at a faulted step: ClockFault alone
 abbrev pub filedOnFault : Reason → OptionAction
-filedOnFault r = when (eqb (index Reason.ClockFault) (index r)) Action.Warn
+filedOnFault r = Action.Warn when eqb (index Reason.ClockFault) (index r)
 
 -- at a confirmed disarm: nothing
 abbrev pub filedOnDisarm : Reason → OptionAction
