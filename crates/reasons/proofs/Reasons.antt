@@ -1,15 +1,15 @@
 -- The claim of specs/Claim.antt. Assumes nothing.
 use Prim.Native.Nat.{ℕ}
-use mathlib.Core.Bool.{Bool, true, false, cond, false≢true, true≢false}
-use mathlib.Core.Path.{_≡_, refl, ap, sym, _∙_}
+use mathlib.Core.Bool.{Bool, true, false, not, cond, false≢true, true≢false}
+use mathlib.Core.Path.{_≡_, refl, ap, _∙_}
 use lib.Ieee.{Float}
 use Rattle.types.specs.declared.Action.{Action}
 use Rattle.types.specs.declared.OptionAction.{OptionAction}
 use Rattle.types.specs.declared.Reason.{Reason}
 use Rattle.types.specs.declared.OptionF32.{OptionF32}
 use Rattle.types.specs.declared.OptionU32.{OptionU32}
+use Rattle.types.specs.declared.OptionGpsSample.{OptionGpsSample}
 use Rattle.types.specs.declared.Telemetry.{Telemetry}
-use Rattle.types.specs.ActiveSet.{emptySet, setRequest}
 use Rattle.time.specs.Time.{Clock, age}
 use Rattle.config.specs.declared.Config.{Config}
 use Rattle.triggers.specs.declared.OptionPlace.{OptionPlace}
@@ -25,10 +25,10 @@ use Rattle.supervisor.specs.Settings.{Settings, Fed}
 use Rattle.supervisor.specs.Step.{sense, disarmedDecision, disarmed, decisionOf, flown, step}
 use Rattle.step_laws.specs.Laws.{clockAt, disarms, restFrom, after}
 use Rattle.step_laws.proofs.Laws.{step-claim}
-use Rattle.reasons.specs.Reasons.{_when_, isFiled, filed, filedOnFault, filedOnDisarm, batteryLatch, energyLatch, linkStage, raisedNext}
-use Rattle.reasons.specs.Claim.{Files, Left, UpdateReasons, UpdateClaim, StepReasons, StepReasonsClaim}
+use Rattle.reasons.specs.Reasons.{_when_, isFiled, gpsSample, filed, filedOnFault, filedOnDisarm, batteryLatch, energyLatch, linkStage, raisedNext}
+use Rattle.reasons.specs.Claim.{Files, Left, UpdateClaim, StepReasons, StepReasonsClaim}
 use Rattle.reasons.proofs.Slots.{empty-files, files-option, files-if, files-as}
-use Rattle.reasons.proofs.Rows.{pair, invalid-row, stale-row, link-row, stage-row, rc-row, approach-row, breach-row, max-row, min-row, warn-row, low-row, latch-row, critical-row, marginal-row, short-row, infeasible-row}
+use Rattle.reasons.proofs.Rows.{pair, pair-as, degraded-is, recovered-is, fixed-is, invalid-row, stale-row, link-row, stage-row, rc-row, approach-row, breach-row, max-row, min-row, warn-row, low-row, latch-row, critical-row, marginal-row, short-row, infeasible-row}
 
 -- ---- the families' requests, in the Rust's order
 
@@ -69,6 +69,9 @@ module _ (ck : Clock) (s : TriggerState) (t : Telemetry) (cfg : Config) (lo hi :
   abbrev on : Raised
   on = raisedOf (cfg .«keeps_raised») (s .raised) f
 
+  abbrev g : OptionGpsSample
+  g = gpsSample ck s t cfg lo hi place margin invalid
+
   rows : (q : Reason) → requests-filed (cfg .«keeps_raised») on f .0 q ≡ filed ck s t cfg lo hi place margin invalid q
   unfolding requests-filed filed batteryLatch energyLatch families raisedOf gps ekf
   rows Reason.None = refl
@@ -77,8 +80,8 @@ module _ (ck : Clock) (s : TriggerState) (t : Telemetry) (cfg : Config) (lo hi :
   rows Reason.StaleBattery = when-same Action.ReturnToLaunch (stale-row ck (t .«now_ms») cfg _ _ _ _)
   rows Reason.GcsLinkLost = link-row ck (t .«now_ms») cfg _ _ _
   rows Reason.RcLost = when-same Action.ReturnToLaunch (rc-row ck (t .«now_ms») cfg (cfg .«keeps_raised») _ _ _)
-  rows Reason.GpsDegraded = when-same Action.Warn (pair ck (t .«now_ms») (cfg .«keeps_raised») _ _ _ _ _ _ _)
-  rows Reason.GpsLost = when-same Action.Land (pair ck (t .«now_ms») (cfg .«keeps_raised») _ _ _ _ _ _ _)
+  rows Reason.GpsDegraded = when-same Action.Warn (pair-as ck (t .«now_ms») (cfg .«keeps_raised») _ _ _ (cfg .«gps_degraded_set_ms») (cfg .«gps_degraded_clear_ms») (degraded-is g) (recovered-is g))
+  rows Reason.GpsLost = when-same Action.Land (pair-as ck (t .«now_ms») (cfg .«keeps_raised») _ _ _ (cfg .«gps_lost_set_ms») (cfg .«gps_lost_clear_ms») (ap not (fixed-is g)) (fixed-is g))
   rows Reason.EkfUnhealthy = when-same Action.Land (pair ck (t .«now_ms») (cfg .«keeps_raised») _ _ _ _ _ _ _)
   rows Reason.PositionInvalid = refl
   rows Reason.FenceApproach = when-same Action.Warn (approach-row ck (t .«now_ms») cfg s _ lo hi place)

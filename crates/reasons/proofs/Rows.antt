@@ -2,27 +2,61 @@
 use Prim.Native.Nat.{ℕ}
 use mathlib.Core.Bool.{Bool, true, false, not, _&&_, _||_, cond}
 use mathlib.Core.Path.{_≡_, refl, ap, _∙_}
-use lib.Dec.{leb, ltb, eqb}
-use lib.Ieee.{Float, binary32, add, sub, lt, le}
-use Rattle.float32.specs.Binary32.{zeroF}
+use lib.Dec.{leb, ltb}
+use lib.IntN.{pos}
+use lib.Ieee.{Float, binary32, add, sub, mul, lt, le, ofInt}
+use Rattle.float32.specs.Binary32.{zeroF, two}
 use Rattle.types.specs.declared.Action.{Action}
 use Rattle.types.specs.declared.OptionAction.{OptionAction}
 use Rattle.types.specs.declared.OptionF32.{OptionF32}
+use Rattle.types.specs.declared.OptionU8.{OptionU8}
 use Rattle.types.specs.declared.OptionU32.{OptionU32}
-use Rattle.time.specs.Time.{Clock, holdMet}
+use Rattle.types.specs.declared.OptionGpsSample.{OptionGpsSample}
+use Rattle.time.specs.Time.{Clock}
 use Rattle.timers.specs.declared.Timer.{Timer}
 use Rattle.timers.specs.Timer.{cleared, pending, heldSet, holdPair, rested, raisedBy}
 use Rattle.config.specs.declared.Config.{Config}
-use Rattle.triggers.specs.declared.Place.{Place}
 use Rattle.triggers.specs.declared.OptionPlace.{OptionPlace}
 use Rattle.triggers.specs.declared.TriggerState.{TriggerState}
-use Rattle.triggers.specs.Families.{invalidInput, gcsAge, stageRequest, gcsStage, gcsClearing, gcsLink, rcLink, fenceApproach, fenceBreach, altitudeMax, altitudeMin, fence, isPresent, lowVoltage, staleBattery, batteryWarn, batteryLow, batteryCritical, battery, energyMarginal, energy}
+use Rattle.triggers.specs.Families.{invalidInput, gcsAge, stageRequest, gcsStage, gcsClearing, gcsLink, rcLink, fewSats, manySats, twoAndAHalf, poorHdop, goodHdop, degraded, recovered, is3d, fixed, fenceApproach, fenceBreach, altitudeMax, altitudeMin, fence, isPresent, lowVoltage, staleBattery, batteryWarn, batteryLow, batteryCritical, battery, energyMarginal, energy}
 use Rattle.triggers.specs.Update.{rcLost}
-use Rattle.reasons.specs.Reasons.{heldFor, raisedFrom, ofValue, ofPlace}
+use Rattle.reasons.specs.Reasons.{heldFor, raisedFrom, ofCount, ofValue, ofSample, ofPlace}
 
 or-false : (b : Bool) → b ≡ (b || false)
 or-false true = refl
 or-false false = refl
+
+-- ---- samples of the satellite receiver
+
+pub degraded-is : (s : OptionGpsSample) → degraded s ≡ not (ofSample s (λ g. ofCount (g .sats) (λ n. not (ltb n 8)) && ofValue (g .hdop) (λ h. not (lt twoAndAHalf h))))
+degraded-is OptionGpsSample.None = refl
+degraded-is (OptionGpsSample.Some g) = at (g .sats) (g .hdop)
+  where
+    not-not : (b : Bool) → b ≡ not (not b)
+    not-not true = refl
+    not-not false = refl
+
+    poor : (h : OptionF32) (few : Bool) → (few || poorHdop h) ≡ not (not few && ofValue h (λ x. not (lt twoAndAHalf x)))
+    poor h true = refl
+    poor OptionF32.None false = refl
+    poor (OptionF32.Some x) false = not-not (lt twoAndAHalf x)
+
+    at : (n : OptionU8) (h : OptionF32) → (fewSats n || poorHdop h) ≡ not (ofCount n (λ k. not (ltb k 8)) && ofValue h (λ x. not (lt twoAndAHalf x)))
+    at OptionU8.None h = refl
+    at (OptionU8.Some n) h = poor h (ltb n 8)
+
+pub recovered-is : (s : OptionGpsSample) → recovered s ≡ ofSample s (λ g. ofCount (g .sats) (λ n. leb 10 n) && ofValue (g .hdop) (λ h. le h two))
+recovered-is OptionGpsSample.None = refl
+recovered-is (OptionGpsSample.Some g) = at (g .sats) (g .hdop)
+  where
+    at : (n : OptionU8) (h : OptionF32) → (manySats n && goodHdop h) ≡ (ofCount n (λ k. leb 10 k) && ofValue h (λ x. le x two))
+    at OptionU8.None h = refl
+    at (OptionU8.Some n) OptionF32.None = refl
+    at (OptionU8.Some n) (OptionF32.Some x) = refl
+
+pub fixed-is : (s : OptionGpsSample) → fixed s ≡ ofSample s (λ g. is3d (g .fix))
+fixed-is OptionGpsSample.None = refl
+fixed-is (OptionGpsSample.Some g) = refl
 
 module _ (ck : Clock) (now : ℕ) where
   -- a timer's hold is met where its test has held
@@ -39,6 +73,12 @@ module _ (ck : Clock) (now : ℕ) where
   pair keeps was set clear true setMs false clearMs = refl
   pair keeps was set clear false setMs true clearMs = refl
   pair keeps was set clear false setMs false clearMs = refl
+
+  -- the same with other words for the two tests
+  pub pair-as : (keeps was : Bool) (set clear : Timer) {bad bad′ : Bool} (setMs : ℕ) {good good′ : Bool} (clearMs : ℕ) → bad ≡ bad′ → good ≡ good′
+      → raisedBy keeps was (holdPair ck set clear now bad setMs good clearMs) ≡ raisedFrom keeps was (heldFor ck now set bad′ setMs) (heldFor ck now clear good′ clearMs)
+  pair-as keeps was set clear {bad} {bad′} setMs {good} {good′} clearMs b g =
+      pair keeps was set clear bad setMs good clearMs ∙ (λ i. raisedFrom keeps was (heldFor ck now set (b i) setMs) (heldFor ck now clear (g i) clearMs))
 
   module _ (cfg : Config) where
     pub invalid-row : (active : Bool) (clear : Timer) (invalid : Bool) (ms : ℕ) → invalidInput ck active clear now invalid ms .active ≡ (invalid || (active && not (heldFor ck now clear true ms)))
@@ -187,19 +227,29 @@ module _ (ck : Clock) (now : ℕ) where
         low-row keeps was OptionF32.None = refl
         low-row keeps was (OptionF32.Some p) = pair keeps was _ _ _ _ _ _
 
+        crit-met : (p : Float)
+            → batteryCritical ck (s .«bat_crit_set») now p volts cfg .met
+            ≡ heldFor ck now (s .«bat_crit_set») (lt p (cfg .«battery_critical_pct») || ofValue volts (λ v. lt v (mul binary32 (cfg .«battery_critical_v_per_cell») (ofInt binary32 (pos (cfg .«cell_count»)))))) (cfg .«battery_critical_set_ms»)
+        unfolding batteryCritical
+        crit-met p = met _ _ _ ∙ ap (λ (b : Bool). heldFor ck now (s .«bat_crit_set») (lt p (cfg .«battery_critical_pct») || b) (cfg .«battery_critical_set_ms»)) (low volts)
+          where
+            low : (v : OptionF32) → lowVoltage v cfg ≡ ofValue v (λ x. lt x (mul binary32 (cfg .«battery_critical_v_per_cell») (ofInt binary32 (pos (cfg .«cell_count»)))))
+            low OptionF32.None = refl
+            low (OptionF32.Some x) = refl
+
         pub latch-row : (charge : OptionF32)
             → battery ck s now charge volts cfg .latched
-            ≡ (s .«battery_critical_latched» || heldFor ck now (s .«bat_crit_set») (ofValue charge (λ p. lt p (cfg .«battery_critical_pct») || lowVoltage volts cfg)) (cfg .«battery_critical_set_ms»))
+            ≡ (s .«battery_critical_latched» || heldFor ck now (s .«bat_crit_set») (ofValue charge (λ p. lt p (cfg .«battery_critical_pct») || ofValue volts (λ v. lt v (mul binary32 (cfg .«battery_critical_v_per_cell») (ofInt binary32 (pos (cfg .«cell_count»))))))) (cfg .«battery_critical_set_ms»))
         unfolding battery batteryCritical
         latch-row OptionF32.None = or-false _
-        latch-row (OptionF32.Some p) = ap (λ (b : Bool). s .«battery_critical_latched» || b) (met _ _ _)
+        latch-row (OptionF32.Some p) = ap (λ (b : Bool). s .«battery_critical_latched» || b) (crit-met p)
 
         pub critical-row : (charge : OptionF32)
             → battery ck s now charge volts cfg .critical
-            ≡ (isPresent charge && (s .«battery_critical_latched» || heldFor ck now (s .«bat_crit_set») (ofValue charge (λ p. lt p (cfg .«battery_critical_pct») || lowVoltage volts cfg)) (cfg .«battery_critical_set_ms»)))
+            ≡ (isPresent charge && (s .«battery_critical_latched» || heldFor ck now (s .«bat_crit_set») (ofValue charge (λ p. lt p (cfg .«battery_critical_pct») || ofValue volts (λ v. lt v (mul binary32 (cfg .«battery_critical_v_per_cell») (ofInt binary32 (pos (cfg .«cell_count»))))))) (cfg .«battery_critical_set_ms»)))
         unfolding battery batteryCritical
         critical-row OptionF32.None = refl
-        critical-row (OptionF32.Some p) = ap (λ (b : Bool). s .«battery_critical_latched» || b) (met _ _ _)
+        critical-row (OptionF32.Some p) = ap (λ (b : Bool). s .«battery_critical_latched» || b) (crit-met p)
 
       -- ---- the energy
 

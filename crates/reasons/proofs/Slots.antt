@@ -1,16 +1,14 @@
 -- Filing one request more: its own slot has it, the others are as they were. Assumes nothing.
-use Prim.Native.Nat.{ℕ}
 use mathlib.Core.Bool.{Bool, true, false, cond}
 use mathlib.Core.Path.{_≡_, refl, ap, sym, subst, _∙_}
 use lib.Dec.{eqb}
-use lib.ListN.{length, getD, set, replicate, length-set, getD-replicate}
+use lib.ListN.{getD, set, length-set, getD-replicate}
 use lib.Seq.{getD-set-same, getD-set-other}
 use borrow.Author.Tests.{eqb-true, eqb-false}
 use native.Mathlib.Omega.{arith}
 use Rattle.types.specs.declared.Action.{Action}
 use Rattle.types.specs.declared.OptionAction.{OptionAction}
 use Rattle.types.specs.declared.Reason.{Reason}
-use Rattle.types.specs.declared.Slot.{Slot}
 use Rattle.types.specs.declared.ActiveSet.{ActiveSet}
 use Rattle.types.specs.Numbers.{index}
 use Rattle.types.specs.ActiveSet.{noRequest, slotOf, emptySet, setRequest}

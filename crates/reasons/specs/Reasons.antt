@@ -1,15 +1,17 @@
 -- When each reason is filed, and with which action: a row a reason, in the order of the enum. Assumes nothing.
--- The readings are validated, the ages and timers are taken at the step's reading of the clock, the timers and latches are those before the step. The step is
--- sound and no confirmed disarm.
+-- The step is sound and no confirmed disarm. Readings are validated, ages are at the step's reading of the clock, timers and latches are those before the step.
 use Prim.Native.Nat.{ℕ}
 use mathlib.Core.Bool.{Bool, true, false, not, _&&_, _||_, cond}
 use lib.Dec.{leb, ltb, eqb}
-use lib.Ieee.{Float, binary32, add, sub, lt, le}
-use Rattle.float32.specs.Binary32.{zeroF}
+use lib.IntN.{pos}
+use lib.Ieee.{Float, binary32, add, sub, mul, lt, le, ofInt}
+use Rattle.float32.specs.Binary32.{zeroF, two}
 use Rattle.types.specs.declared.Action.{Action}
 use Rattle.types.specs.declared.OptionAction.{OptionAction}
 use Rattle.types.specs.declared.Reason.{Reason}
+use Rattle.types.specs.declared.OptionU8.{OptionU8}
 use Rattle.types.specs.declared.OptionF32.{OptionF32}
+use Rattle.types.specs.declared.GpsSample.{GpsSample}
 use Rattle.types.specs.declared.OptionGpsSample.{OptionGpsSample}
 use Rattle.types.specs.declared.Telemetry.{Telemetry}
 use Rattle.types.specs.Numbers.{index}
@@ -22,7 +24,7 @@ use Rattle.triggers.specs.declared.Place.{Place}
 use Rattle.triggers.specs.declared.OptionPlace.{OptionPlace}
 use Rattle.triggers.specs.declared.TriggerState.{TriggerState}
 use Rattle.triggers.specs.declared.Raised.{Raised}
-use Rattle.triggers.specs.Families.{gcsAge, stageRequest, degraded, recovered, fixed, inAir, isPresent, lowVoltage}
+use Rattle.triggers.specs.Families.{gcsAge, stageRequest, twoAndAHalf, is3d, inAir, isPresent}
 use Rattle.triggers.specs.Update.{noneRaised}
 
 infix 10 _when_
@@ -36,7 +38,7 @@ abbrev pub isFiled : OptionAction → Bool
 isFiled OptionAction.None = false
 isFiled (OptionAction.Some a) = true
 
--- a test that holds at this step and has held for `ms`: since its timer started, which is now where it had not
+-- a test that holds at this step and has held for `ms`: since its timer started, or since now. (When a timer starts, rests and is cleared: crates/triggers/specs/Families.antt.)
 abbrev pub heldFor : Clock → ℕ → Timer → Bool → ℕ → Bool
 heldFor clock now timer test ms = test && holdMet clock now (sinceOr (timer .«since_ms») now) ms
 
@@ -45,10 +47,18 @@ heldFor clock now timer test ms = test && holdMet clock now (sinceOr (timer .«s
 abbrev pub raisedFrom : Bool → Bool → Bool → Bool → Bool
 raisedFrom keeps was setHeld clearHeld = cond keeps (setHeld || (was && not clearHeld)) (setHeld && not clearHeld)
 
--- a test of a value, and of what is read at a position; false where there is none
+-- a test of a reading: false where there is none
+abbrev pub ofCount : OptionU8 → (ℕ → Bool) → Bool
+ofCount OptionU8.None test = false
+ofCount (OptionU8.Some n) test = test n
+
 abbrev pub ofValue : OptionF32 → (Float → Bool) → Bool
 ofValue OptionF32.None test = false
 ofValue (OptionF32.Some x) test = test x
+
+abbrev pub ofSample : OptionGpsSample → (GpsSample → Bool) → Bool
+ofSample OptionGpsSample.None test = false
+ofSample (OptionGpsSample.Some g) test = test g
 
 abbrev pub ofPlace : OptionPlace → (Place → Bool) → Bool
 ofPlace OptionPlace.None test = false
@@ -85,6 +95,10 @@ module _ (clock : Clock) (before : TriggerState) (t : Telemetry) (cfg : Config) 
   abbrev pub voltage : OptionF32
   voltage = freshVoltage clock (t .«now_ms») (t .battery) (cfg .«battery_fresh_ms»)
 
+  -- below battery_critical_v_per_cell a cell
+  abbrev pub cellsLow : Bool
+  cellsLow = ofValue voltage (λ v. lt v (mul binary32 (cfg .«battery_critical_v_per_cell») (ofInt binary32 (pos (cfg .«cell_count»)))))
+
   -- of the last heartbeat; 2 ^ 32 - 1 where there is none
   abbrev pub linkAge : ℕ
   linkAge = gcsAge clock (t .«now_ms») (t .«gcs_heartbeat_ms»)
@@ -93,7 +107,7 @@ module _ (clock : Clock) (before : TriggerState) (t : Telemetry) (cfg : Config) 
   unfoldable pub batteryLatch : Bool
   batteryLatch =
       before .«battery_critical_latched»
-      || held (before .«bat_crit_set») (ofValue charge (λ p. lt p (cfg .«battery_critical_pct») || lowVoltage voltage cfg)) (cfg .«battery_critical_set_ms»)
+      || held (before .«bat_crit_set») (ofValue charge (λ p. lt p (cfg .«battery_critical_pct») || cellsLow)) (cfg .«battery_critical_set_ms»)
 
   -- set once the margin has been below 0 for energy_infeasible_set_ms
   unfoldable pub energyLatch : Bool
@@ -112,7 +126,8 @@ module _ (clock : Clock) (before : TriggerState) (t : Telemetry) (cfg : Config) 
       Action.Warn when invalid || (before .«invalid_active» && not (held (before .«invalid_clear») true (cfg .«invalid_input_clear_ms»)))
   -- neither a fresh voltage nor a fresh charge
   filed Reason.StaleBattery = Action.ReturnToLaunch when not (isPresent voltage || isPresent charge)
-  -- a heartbeat older than a limit: the action of the greatest. At most gcs_clear_ms old: what the stage before asks for, until that has held for gcs_clear_hold_ms.
+  -- a heartbeat older than a limit: the action of the greatest. At most gcs_clear_ms old: until that has held for gcs_clear_hold_ms, what the stage before asks for
+  -- (3 ReturnToLaunch, 2 Hold, 1 Warn).
   filed Reason.GcsLinkLost =
       cond (ltb (cfg .«gcs_rtl_ms») linkAge) (OptionAction.Some Action.ReturnToLaunch)
       (cond (ltb (cfg .«gcs_hold_ms») linkAge) (OptionAction.Some Action.Hold)
@@ -123,16 +138,16 @@ module _ (clock : Clock) (before : TriggerState) (t : Telemetry) (cfg : Config) 
   filed Reason.RcLost =
       let lost = cfg .«rc_required» && not rcOk in
       Action.ReturnToLaunch when cond (cfg .«keeps_raised») (held (before .«rc_lost_set») lost (cfg .«rc_lost_set_ms»)) lost
-  -- no fresh sample, fewer than 8 satellites or hdop above 2.5, or either not told, for gps_degraded_set_ms; until 10 satellites and hdop at most 2 for gps_degraded_clear_ms
+  -- no fresh sample that tells of 8 satellites or more and an hdop not above 2.5, for gps_degraded_set_ms; until one of 10 or more and at most 2, for gps_degraded_clear_ms
   filed Reason.GpsDegraded =
       Action.Warn when raised (before .raised .«gps_degraded»)
-      (held (before .«gps_deg_set») (degraded gpsSample) (cfg .«gps_degraded_set_ms»))
-      (held (before .«gps_deg_clear») (recovered gpsSample) (cfg .«gps_degraded_clear_ms»))
+      (held (before .«gps_deg_set») (not (ofSample gpsSample (λ g. ofCount (g .sats) (λ n. not (ltb n 8)) && ofValue (g .hdop) (λ h. not (lt twoAndAHalf h))))) (cfg .«gps_degraded_set_ms»))
+      (held (before .«gps_deg_clear») (ofSample gpsSample (λ g. ofCount (g .sats) (λ n. leb 10 n) && ofValue (g .hdop) (λ h. le h two))) (cfg .«gps_degraded_clear_ms»))
   -- no fresh sample with a fix in three dimensions for gps_lost_set_ms; until one for gps_lost_clear_ms
   filed Reason.GpsLost =
       Action.Land when raised (before .raised .«gps_lost»)
-      (held (before .«gps_lost_set») (not (fixed gpsSample)) (cfg .«gps_lost_set_ms»))
-      (held (before .«gps_lost_clear») (fixed gpsSample) (cfg .«gps_lost_clear_ms»))
+      (held (before .«gps_lost_set») (not (ofSample gpsSample (λ g. is3d (g .fix)))) (cfg .«gps_lost_set_ms»))
+      (held (before .«gps_lost_clear») (ofSample gpsSample (λ g. is3d (g .fix))) (cfg .«gps_lost_clear_ms»))
   -- no fresh ekf_ok of true for ekf_unhealthy_set_ms; until one for ekf_unhealthy_clear_ms
   filed Reason.EkfUnhealthy =
       Action.Land when raised (before .raised .«ekf_unhealthy»)
