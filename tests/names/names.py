@@ -199,7 +199,7 @@ same("the header's default fence and tools/frames.py", frames.fence_frame({}).he
 cited = re.findall(r"((?:`\w+`,? ?)+): (\w+/specs/\w+\.antt)", text("docs/RULES.md"))
 for names_, file in cited:
     for name in re.findall(r"`(\w+)`", names_):
-        if not re.search(r"^(?:\w+ )*pub (?:record )?%s\b" % name, text(f"crates/{file}"), re.M):
+        if not re.search(r"^ *(?:\w+ )*pub (?:record )?%s\b" % name, text(f"crates/{file}"), re.M):
             differs.append(f"docs/RULES.md: there is no {name} in crates/{file}")
 code = "\n".join(path.read_text(encoding="utf-8") for path in sorted(TOP.glob("crates/*/src/*.rt")))
 for name in re.findall(r"`(?:\w+::)?(\w+)`", "\n".join(line for line in text("docs/TOUR.md").splitlines() if re.match(r"\| \d+ \|", line))):

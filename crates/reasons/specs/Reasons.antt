@@ -27,22 +27,24 @@ use Rattle.triggers.specs.declared.Raised.{Raised}
 use Rattle.triggers.specs.Families.{gcsAge, stageRequest, twoAndAHalf, is3d, inAir, isPresent}
 use Rattle.triggers.specs.Update.{noneRaised}
 
-infix 10 _when_
 -- ---- the words of the rows
 
 -- filed with an action where a test holds, and else not
+infix 10 _when_
 abbrev pub _when_ : Action → Bool → OptionAction
 _when_ a test = cond test (OptionAction.Some a) OptionAction.None
 
+-- whether there is a request
 abbrev pub isFiled : OptionAction → Bool
 isFiled OptionAction.None = false
 isFiled (OptionAction.Some a) = true
 
--- a test that holds at this step and has held for `ms`: since its timer started, or since now. (When a timer starts, rests and is cleared: crates/triggers/specs/Families.antt.)
+-- a test that holds at this step and has held for `ms`: since its timer started, or since now. A step without a valid position, a fresh charge or a margin leaves the
+-- timers of tests on it as they are (crates/triggers/specs/Families.antt has each timer).
 abbrev pub heldFor : Clock → ℕ → Timer → Bool → ℕ → Bool
 heldFor clock now timer test ms = test && holdMet clock now (sinceOr (timer .«since_ms») now) ms
 
--- by a timer that sets it and one that clears it. Kind 1: its set timer has held, and its clear timer has not. Kind 11 (`keeps`): "raised before and not cleared
+-- raised by a timer that sets and one that clears. Kind 1: its set timer has held, and its clear timer has not. Kind 11 (`keeps`): "raised before and not cleared
 -- there, or its set timer has held there".
 abbrev pub raisedFrom : Bool → Bool → Bool → Bool → Bool
 raisedFrom keeps was setHeld clearHeld = cond keeps (setHeld || (was && not clearHeld)) (setHeld && not clearHeld)
@@ -69,9 +71,11 @@ ofPlace (OptionPlace.Some p) test = test p
 -- `before` is the state of the triggers before the step, `place` what is read at a valid position, `margin` what is left of the energy after a return, `invalid`
 -- whether a reading was out of bounds
 module _ (clock : Clock) (before : TriggerState) (t : Telemetry) (cfg : Config) (minAlt maxAlt : Float) (place : OptionPlace) (margin : OptionF32) (invalid : Bool) where
+  -- at the step's reading of the clock
   abbrev pub held : Timer → Bool → ℕ → Bool
   held = heldFor clock (t .«now_ms»)
 
+  -- by the configuration's kind
   abbrev pub raised : Bool → Bool → Bool → Bool
   raised = raisedFrom (cfg .«keeps_raised»)
 
@@ -103,7 +107,8 @@ module _ (clock : Clock) (before : TriggerState) (t : Telemetry) (cfg : Config) 
   abbrev pub linkAge : ℕ
   linkAge = gcsAge clock (t .«now_ms») (t .«gcs_heartbeat_ms»)
 
-  -- set once, at steps with a fresh charge, that has been below battery_critical_pct or a fresh voltage below battery_critical_v_per_cell a cell, for battery_critical_set_ms
+  -- set once a fresh charge has been below battery_critical_pct, or come with a fresh voltage below battery_critical_v_per_cell a cell, for battery_critical_set_ms;
+  -- without a fresh charge the voltage does not count
   unfoldable pub batteryLatch : Bool
   batteryLatch =
       before .«battery_critical_latched»
@@ -121,20 +126,20 @@ module _ (clock : Clock) (before : TriggerState) (t : Telemetry) (cfg : Config) 
   filed Reason.None = OptionAction.None
   -- at a faulted step only, and then alone
   filed Reason.ClockFault = OptionAction.None
-  -- a reading is out of bounds, or one was and for less than invalid_input_clear_ms none has been
+  -- a reading is out of bounds; or one was, and it is less than invalid_input_clear_ms since the first step without
   filed Reason.InvalidInput =
       Action.Warn when invalid || (before .«invalid_active» && not (held (before .«invalid_clear») true (cfg .«invalid_input_clear_ms»)))
   -- neither a fresh voltage nor a fresh charge
   filed Reason.StaleBattery = Action.ReturnToLaunch when not (isPresent voltage || isPresent charge)
-  -- a heartbeat older than a limit: the action of the greatest. At most gcs_clear_ms old: until that has held for gcs_clear_hold_ms, what the stage before asks for
-  -- (3 ReturnToLaunch, 2 Hold, 1 Warn).
+  -- a heartbeat older than gcs_rtl_ms, gcs_hold_ms or gcs_warn_ms, tried in this order, or none. At most gcs_clear_ms old: what the stage before asks for
+  -- (3 ReturnToLaunch, 2 Hold, 1 Warn), until that has held for gcs_clear_hold_ms. Between gcs_clear_ms and gcs_warn_ms: not.
   filed Reason.GcsLinkLost =
       cond (ltb (cfg .«gcs_rtl_ms») linkAge) (OptionAction.Some Action.ReturnToLaunch)
       (cond (ltb (cfg .«gcs_hold_ms») linkAge) (OptionAction.Some Action.Hold)
       (cond (ltb (cfg .«gcs_warn_ms») linkAge) (OptionAction.Some Action.Warn)
       (cond (leb linkAge (cfg .«gcs_clear_ms») && not (held (before .«gcs_clear_timer») true (cfg .«gcs_clear_hold_ms»))) (stageRequest (before .«gcs_stage»))
       OptionAction.None)))
-  -- the hand controller is required and there is no fresh rc_ok of true. Kind 1: from the first such step; kind 11: once that has held for rc_lost_set_ms.
+  -- the hand controller is required and there is no fresh rc_ok of true. Kind 1: at each such step; kind 11: where that has held for rc_lost_set_ms.
   filed Reason.RcLost =
       let lost = cfg .«rc_required» && not rcOk in
       Action.ReturnToLaunch when cond (cfg .«keeps_raised») (held (before .«rc_lost_set») lost (cfg .«rc_lost_set_ms»)) lost
@@ -163,8 +168,8 @@ module _ (clock : Clock) (before : TriggerState) (t : Telemetry) (cfg : Config) 
       Action.ReturnToLaunch when raised (before .raised .«fence_breach»)
       (held (before .«fence_breach_set») (ofPlace place (λ p. lt (p .fence .m) zeroF)) (cfg .«fence_breach_set_ms»))
       (held (before .«fence_breach_clear») (ofPlace place (λ p. le (cfg .«fence_breach_clear_m») (p .fence .m))) (cfg .«fence_breach_clear_ms»))
-  -- a valid position above the upper altitude for alt_max_set_ms; under both kinds gone at the first step without. One that is also below it by alt_max_clear_m,
-  -- for which alt_max_clear_m must be below 0, for alt_max_clear_hold_ms: not filed.
+  -- a valid position above the upper altitude for alt_max_set_ms; under both kinds gone at the first step without. The second test can only hold where
+  -- alt_max_clear_m is below 0.
   filed Reason.AltitudeMax =
       Action.ReturnToLaunch when
       held (before .«alt_max_set») (ofPlace place (λ p. lt maxAlt (p .«alt_m»))) (cfg .«alt_max_set_ms»)
