@@ -12,6 +12,8 @@ long:
 
 # The fixed lists of the Rust's answers, made anew (needs the Rust's source: oracle/run.sh says where).
 lists:
-	oracle/run.sh lists crates/replay
-	oracle/run.sh flights crates/replay_flights
-	oracle/run.sh frame_rows crates/replay_frames
+	oracle/run.sh lists tests/replay/leaves
+	oracle/run.sh flights tests/replay/flights
+	oracle/run.sh frame_rows tests/replay/frames
+	oracle/run.sh calls tests/replay/calls
+	oracle/run.sh kept_streams tests/replay/streams "$$(oracle/run.sh --path decide)"

@@ -25,15 +25,16 @@ need_gcc() {
     fi
 }
 
-# Makes the fixed list of the oracle's PROGRAM anew: it has to be the one that the crate REPLAY keeps. What the program said
+# Makes the fixed list of the oracle's PROGRAM anew: it has to be the one that tests/replay/LIST keeps. What the program said
 # is then in build/PROGRAM/said.
-kept_list() { # PROGRAM REPLAY
-    local made=$top/build/$1 part
+kept_list() { # PROGRAM LIST [ARGUMENT ..]
+    local program=$1 list=$2 made=$top/build/$1 part
+    shift 2
     mkdir -p "$made"
-    "$top/oracle/run.sh" "$1" "$made" >"$made/said" 2>&1
+    "$top/oracle/run.sh" "$program" "$made" "$@" >"$made/said" 2>&1
     need $? "$made/said"
-    for part in stdin stdout; do
-        cmp "$made/$part" "$top/crates/$2/$part" || exit 1
+    for part in rows answers; do
+        cmp "$made/$part" "$top/tests/replay/$list/$part" || exit 1
     done
 }
 

@@ -4,6 +4,6 @@
 set -u
 . "$(dirname "${BASH_SOURCE[0]}")/../common.sh"
 
-kept_list flights replay_flights
+kept_list flights flights
 grep -E '^(action|reason|request|step down|latch|link stage):' "$top/build/flights/said"
 echo "$(tail -n 1 "$top/build/flights/said"), all as kept"

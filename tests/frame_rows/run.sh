@@ -4,5 +4,5 @@
 set -u
 . "$(dirname "${BASH_SOURCE[0]}")/../common.sh"
 
-kept_list frame_rows replay_frames
+kept_list frame_rows frames
 echo "$(tail -n 1 "$top/build/frame_rows/said"), all as kept"

@@ -3,5 +3,5 @@
 set -u
 . "$(dirname "${BASH_SOURCE[0]}")/../common.sh"
 
-kept_list lists replay
+kept_list lists leaves
 echo "$(tail -n 1 "$top/build/lists/said"), all as kept"

@@ -1,7 +1,8 @@
-//! Writes the fixed list of the Rust's flights: the rows that crates/replay_flights reads, and the answers
-//! that it has to give. `flights FOLDER` writes FOLDER/stdin and FOLDER/stdout, always the same ones;
+//! Writes the fixed list of the Rust's flights: the rows that tests/replay asks, and the answers that it has
+//! to get. `flights FOLDER` writes FOLDER/rows and FOLDER/answers, always the same ones;
 //! `flights FOLDER FLIGHTS SEED` draws that many flights in place of the list's, from another seed.
 
+mod exact;
 mod rows;
 mod script;
 
@@ -43,7 +44,7 @@ impl<'a> Flight<'a> {
         let d: Decision = read_frame(DECISION, &self.both.step(&frame)).expect("a Decision");
         self.coverage
             .step(&self.setup, &old, &t, &d, &self.both.state());
-        self.rows.step(&t, &d);
+        self.rows.step(&t, &d, &self.both.state_frame());
     }
 
     /// The last sound clock reading.
@@ -104,6 +105,14 @@ fn main() -> std::io::Result<()> {
         for _ in 0..STEPS {
             let t = pilot.next(&mut random, &flight.setup, &flight.both.state());
             flight.step(t);
+        }
+    }
+    let mut random = Random::new(seed);
+    let limits: [fn(&mut Flight, &mut Random); 3] = [exact::fly, exact::jumps, exact::disarms];
+    for cfg in [Config::default(), script::frugal()] {
+        for fly in limits {
+            let mut flight = Flight::begin(Setup::with(&cfg), &mut rows, &mut coverage);
+            fly(&mut flight, &mut random);
         }
     }
     coverage.report();

@@ -1,10 +1,9 @@
-//! Rows for crates/replay_flights: a flight's configuration and fence, and its steps. docs/RUST.md has the
-//! form.
+//! Rows for tests/replay: a flight's configuration and fence, and its steps. docs/LISTS.md has the form.
 
 use std::path::Path;
 
 use failsafe_open::{Decision, Telemetry};
-use words::{answered, given, line};
+use words::{answered, digest, given, line};
 
 const BEGIN: u32 = 0x40;
 const STEP: u32 = 0x41;
@@ -31,8 +30,9 @@ impl Rows {
         self.refused += (refusal != 0) as usize;
     }
 
-    pub fn step(&mut self, t: &Telemetry, d: &Decision) {
-        self.add(STEP, &telemetry_words(t), &decision_words(d));
+    /// A step, with the state's frame after it.
+    pub fn step(&mut self, t: &Telemetry, d: &Decision, state: &[u8]) {
+        self.add(STEP, &telemetry_words(t), &step_words(d, state));
     }
 
     fn add(&mut self, asks: u32, arguments: &[u32], answers: &[u32]) {
@@ -43,8 +43,8 @@ impl Rows {
 
     pub fn write(&self, folder: &Path) -> std::io::Result<()> {
         std::fs::create_dir_all(folder)?;
-        std::fs::write(folder.join("stdin"), &self.rows)?;
-        std::fs::write(folder.join("stdout"), &self.answers)
+        std::fs::write(folder.join("rows"), &self.rows)?;
+        std::fs::write(folder.join("answers"), &self.answers)
     }
 }
 
@@ -103,7 +103,7 @@ fn telemetry_words(t: &Telemetry) -> Vec<u32> {
     all
 }
 
-fn decision_words(d: &Decision) -> Vec<u32> {
+fn step_words(d: &Decision, state: &[u8]) -> Vec<u32> {
     let e = &d.energy;
     let flags = bits(&[
         d.position_valid,
@@ -118,6 +118,7 @@ fn decision_words(d: &Decision) -> Vec<u32> {
     let mut all = vec![numbers.iter().rev().fold(0, |sum, n| sum * 256 + n)];
     all.extend([e.rtl_wh, e.land_wh, e.reserve_wh].map(answered));
     all.extend([e.remaining_wh, e.margin_wh, d.fence_dist_m].map(|x| x.map_or(0, answered)));
+    all.extend(digest(state));
     for (place, slot) in d.active.reqs.iter().enumerate() {
         if let Some(request) = slot {
             all.push(place as u32 * 65536 + request.reason as u32 * 256 + request.action as u32);

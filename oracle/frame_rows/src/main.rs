@@ -1,6 +1,6 @@
-//! Writes the fixed list of frames, good and damaged: the rows that crates/replay_frames reads, and the
-//! answers that it has to give. `frame_rows FOLDER` writes FOLDER/stdin and FOLDER/stdout, always the same
-//! ones. docs/RUST.md has the form of a row.
+//! Writes the fixed list of frames, good and damaged: the rows that tests/replay asks, and the answers that
+//! it has to get. `frame_rows FOLDER` writes FOLDER/rows and FOLDER/answers, always the same ones.
+//! docs/LISTS.md has the form of a row.
 
 mod damage;
 mod fences;

@@ -7,7 +7,7 @@ use frames::{
     BAD_VALUE, CONFIG, DECISION, FENCE, Field, REFUSAL, STATE, State, TELEMETRY, fence_core,
     fence_open, read_fence, read_frame, write_fence, write_frame,
 };
-use words::line;
+use words::{line, packed};
 
 /// More bytes than these no frame of the list has, and a buffer neither.
 const MOST_BYTES: usize = 2064;
@@ -65,15 +65,6 @@ fn reply(kind: u16, frame: &[u8], to: &mut [u8]) -> Reply {
         REFUSAL => anew::<u16>(kind, frame, to),
         _ => unreachable!("no such kind"),
     }
-}
-
-/// Four bytes to a word, the first in the highest digits; 0 past the last.
-fn packed(bytes: &[u8]) -> impl Iterator<Item = u32> {
-    bytes.chunks(4).map(|four| {
-        let mut all = [0; 4];
-        all[..four.len()].copy_from_slice(four);
-        u32::from_be_bytes(all)
-    })
 }
 
 pub struct Rows {
@@ -143,7 +134,7 @@ impl Rows {
 
     pub fn write(&self, folder: &Path) -> std::io::Result<()> {
         std::fs::create_dir_all(folder)?;
-        std::fs::write(folder.join("stdin"), &self.rows)?;
-        std::fs::write(folder.join("stdout"), &self.answers)
+        std::fs::write(folder.join("rows"), &self.rows)?;
+        std::fs::write(folder.join("answers"), &self.answers)
     }
 }

@@ -1,5 +1,5 @@
-//! Writes the fixed list of the Rust's answers: the rows that crates/replay reads, and the answers
-//! that it has to give. `lists FOLDER` writes FOLDER/stdin and FOLDER/stdout, always the same ones.
+//! Writes the fixed list of the Rust's answers on its leaves: the rows that tests/replay asks, and the answers
+//! that it has to get. `lists FOLDER` writes FOLDER/rows and FOLDER/answers, always the same ones.
 //! docs/LISTS.md has the form of a row.
 
 mod config;

@@ -7,7 +7,7 @@ use failsafe_core::{ConfigError, FenceError};
 use words::line;
 pub use words::{answered, given};
 
-/// What a row asks. crates/replay has the same numbers.
+/// What a row asks. tests/replay/leaves.c has the same numbers.
 #[derive(Clone, Copy, PartialEq, Eq, PartialOrd, Ord, Debug)]
 pub enum Asks {
     Age = 0x01,
@@ -70,8 +70,8 @@ impl Rows {
 
     pub fn write(&self, folder: &Path) -> std::io::Result<()> {
         std::fs::create_dir_all(folder)?;
-        std::fs::write(folder.join("stdin"), &self.rows)?;
-        std::fs::write(folder.join("stdout"), &self.answers)
+        std::fs::write(folder.join("rows"), &self.rows)?;
+        std::fs::write(folder.join("answers"), &self.answers)
     }
 }
 

@@ -1,0 +1,33 @@
+-- `leaves_c::leaf_reason_priority` meets its contract. Assumes nothing.
+use borrow.Author.Needs.{needs}
+use Rattle.leaves_c.proofs.leaf_reason_priority.Statement.{statement}
+use Rattle.leaves_c.proofs.leaf_reason_priority.Tie as tie
+
+from-index-requires : tie.Need-from-index-requires
+from-index-requires c κs = search needs
+
+enum-known-r : tie.Need-enum-known-r
+enum-known-r c = search needs
+
+display-priority-requires : tie.Need-display-priority-requires
+display-priority-requires c κs = search needs
+
+enum-told : tie.Need-enum-told
+enum-told c = search needs
+
+returns : tie.Need-returns
+returns c = rw (← c .before .before .before .before .from-index .ensures, c .before .before .r .given .1) (c .display-priority .ensures)
+
+returns-2 : tie.Need-returns-2
+returns-2 c = search needs
+
+pub leaf-reason-priority-spec : {M : Type 1} → statement M
+leaf-reason-priority-spec =
+    tie.close
+    (tie.spec
+    from-index-requires
+    enum-known-r
+    display-priority-requires
+    enum-told
+    returns
+    returns-2)

@@ -1,0 +1,2 @@
+-- The definitions that the contracts of `leaves_c` cite.
+pub mod Leaves
