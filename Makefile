@@ -4,11 +4,12 @@
 check:
 	.ci/run
 
-# What takes too long for the gate: the square root of all 2^32 patterns, and ten million steps beside the Rust, without and with areas.
+# What takes too long for the gate: the square root of all 2^32 patterns, and ten million steps beside the Rust, without and with areas, and under kind 11.
 long:
 	tests/sqrt/run.sh all
 	tests/entries/run.sh 10000000 20261117
 	tests/areas/run.sh 10000000 20261119
+	tests/raised/run.sh 10000000 20261121
 
 # The fixed lists of the Rust's answers, made anew (needs the Rust's source: oracle/run.sh says where).
 lists:

@@ -1,8 +1,10 @@
 #!/usr/bin/env python3
 """Frames of the flight supervisor, as bytes and as text.
 
-  frames.py pack FLIGHT.json [FILE]     packs a flight's configuration, fence, areas and telemetry into frames,
-                                        as `decide` reads them (FILE: where to; default: standard output)
+  frames.py pack FLIGHT.json [FILE] [--kind KIND]
+                                        packs a flight's configuration, fence, areas and telemetry into frames,
+                                        as `decide` reads them (FILE: where to; default: standard output;
+                                        --kind: 1 or 11, the configuration's kind, whatever the flight says)
   frames.py show [FILE] [--input FILE]  shows frames as text, a line for each (FILE: default standard input;
                                         --input: the frames or the flight that were stepped: the n-th Decision
                                         is then shown with the time of the n-th telemetry, and the side of a
@@ -37,7 +39,8 @@
                                         flights or their frames; FILE: where to; default: standard output)
 
 A flight is an object with these members, each of which may be left out:
-  "config"     fields of Config that differ from the defaults, as {"recovery_hold_ms": 6000}
+  "config"     fields of Config that differ from the defaults, as {"recovery_hold_ms": 6000}; and "kind", 1 or 11 (left out: 1).
+               Under kind 11 eight requests, once raised, stay until their clear timer has held, and RcLost waits for rc_lost_set_ms
   "fence"      {"kind": 2, "min_alt_m": 5, "max_alt_m": 120, "corners": [[north, east], ...]}; left out: the default
                fence. Kind 8 asks one rule more: going round the sides, the north steps change their sign twice
   "areas"      a list of keep-out areas: {"number": 1, "corners": [[north, east], ...], "from_ms": 5000, "until_ms": 60000};
@@ -91,15 +94,20 @@ import struct
 import sys
 
 CONFIG, FENCE, TELEMETRY, DECISION, STATE, DECISION_SIDE, AREA, FENCE_ONCE_ROUND, AREAS, REFUSAL = 1, 2, 3, 4, 5, 6, 7, 8, 13, 255
+CONFIG_RAISED, STATE_RAISED = 11, 12
+CONFIGS = (CONFIG, CONFIG_RAISED)
 FENCES = (FENCE, FENCE_ONCE_ROUND)
 DECISIONS = (DECISION, DECISION_SIDE)
 AREA_SIDE, NO_SIDE = 254, 255
 KINDS = {CONFIG: "Config", FENCE: "Fence", FENCE_ONCE_ROUND: "Fence of kind 8", TELEMETRY: "Telemetry", DECISION: "Decision", STATE: "State",
-         DECISION_SIDE: "Decision with its side", AREA: "Area", AREAS: "Areas", REFUSAL: "Refusal"}
+         DECISION_SIDE: "Decision with its side", AREA: "Area", AREAS: "Areas", REFUSAL: "Refusal",
+         CONFIG_RAISED: "Config of kind 11", STATE_RAISED: "State of kind 12"}
 ACTIONS = ["Nominal", "Warn", "Hold", "ReturnToLaunch", "Land"]
 REASONS = ["None", "ClockFault", "InvalidInput", "StaleBattery", "GcsLinkLost", "RcLost", "GpsDegraded", "GpsLost",
            "EkfUnhealthy", "PositionInvalid", "FenceApproach", "FenceBreach", "AltitudeMax", "AltitudeMin", "BatteryWarn",
            "BatteryLow", "BatteryCritical", "EnergyRtlMarginal", "EnergyRtlInfeasible"]
+# The requests that stay raised under kind 11, in the order of kind 12's last bytes.
+RAISED = ["GpsDegraded", "GpsLost", "EkfUnhealthy", "FenceBreach", "AltitudeMin", "BatteryWarn", "BatteryLow", "EnergyRtlMarginal"]
 FIXES = ["None", "Fix2D", "Fix3D"]
 LANDED = ["Undefined", "OnGround", "InAir", "Takeoff", "Landing"]
 REFUSALS = {
@@ -282,8 +290,16 @@ def telemetry_body(value, where):
     return body
 
 
+def config_frame(value, kind):
+    """A configuration of this kind; where that is None, of the kind that it says."""
+    value = members(value, "config", ["kind"] + [name for name, _, _ in CONFIG_FIELDS])
+    said = value.get("kind", CONFIG)
+    if isinstance(said, bool) or said not in CONFIGS:
+        raise Bad(f"config.kind: 1 or 11 is wanted, not {json.dumps(said)}")
+    return frame(said if kind is None else kind, config_body(value))
+
+
 def config_body(value):
-    value = members(value, "config", [name for name, _, _ in CONFIG_FIELDS])
     pack = {"u8": pack_u8, "u32": pack_u32, "f32": pack_f32, "flag": pack_flag}
     return b"".join(pack[kind](value.get(name, default), f"config.{name}") for name, kind, default in CONFIG_FIELDS)
 
@@ -344,9 +360,9 @@ def list_of(flight, name, what):
     return values
 
 
-def pack_flight(flight):
+def pack_flight(flight, kind=None):
     flight = members(flight, "flight", ["config", "fence", "areas", "telemetry"])
-    frames = [frame(CONFIG, config_body(flight.get("config", {}))), fence_frame(flight.get("fence", {}))]
+    frames = [config_frame(flight.get("config", {}), kind), fence_frame(flight.get("fence", {}))]
     areas = [area_of(value, f"areas[{k}]") for k, value in enumerate(list_of(flight, "areas", "areas"))]
     before = []
     for k, value in enumerate(list_of(flight, "telemetry", "readings")):
@@ -430,7 +446,7 @@ def show_config(body):
             default = struct.unpack("<f", struct.pack("<f", default))[0]
         if value != default:
             changed.append(f"{name} {number(value) if kind == 'f32' else value}")
-    return "Config: the defaults" + (", but for " + ", ".join(changed) if changed else "")
+    return f"{KINDS[body.kind]}: the defaults" + (", but for " + ", ".join(changed) if changed else "")
 
 
 def read_fence(body):
@@ -553,7 +569,9 @@ def show_state(body):
     told.append(f"epoch_start {body.u32()}")
     told.append(f"faults in a row {body.u8()}")
     told.append("begun" if body.flag() else "fresh")
-    return "State: " + ", ".join(told)
+    if body.kind == STATE_RAISED:
+        told.append("raised " + (" ".join([name for name in RAISED if body.flag()]) or "none"))
+    return f"{KINDS[body.kind]}: " + ", ".join(told)
 
 
 def split(stream, at=0):
@@ -581,7 +599,7 @@ def read_refusal(body):
 def show_frame(body):
     """A frame that is no Decision, as a line."""
     shows = {CONFIG: show_config, FENCE: show_fence, FENCE_ONCE_ROUND: show_fence, TELEMETRY: show_telemetry, STATE: show_state,
-             AREA: show_areas, AREAS: show_areas, REFUSAL: read_refusal}
+             AREA: show_areas, AREAS: show_areas, REFUSAL: read_refusal, CONFIG_RAISED: show_config, STATE_RAISED: show_state}
     line = shows[body.kind](body)
     body.end()
     return line
@@ -1577,9 +1595,9 @@ def parse_flight(path, bytes_, where=""):
         raise Bad(f"{named(path)}: a number has too many digits") from None
 
 
-def packed_flight(path, bytes_):
+def packed_flight(path, bytes_, kind=None):
     flight = parse_flight(path, bytes_)
-    return with_place(named(path), lambda: pack_flight(flight))
+    return with_place(named(path), lambda: pack_flight(flight, kind))
 
 
 def frames_of(path):
@@ -1604,8 +1622,10 @@ def corners_in(frames):
     return []
 
 
-def pack_command(words):
-    write_bytes(packed_flight(words[0], read_bytes(words[0])), words[1:])
+def pack_command(words, kind=None):
+    if kind not in (None, *map(str, CONFIGS)):
+        raise Bad(f"--kind: 1 or 11 is wanted, not {json.dumps(kind)}")
+    write_bytes(packed_flight(words[0], read_bytes(words[0]), kind and int(kind)), words[1:])
 
 
 def output():
@@ -1735,7 +1755,7 @@ def count_command(words, as_csv=None):
 
 
 # Each command: its function, the fewest and the most words after its name, an option, the words that the option takes.
-COMMANDS = {"pack": (pack_command, 1, 2, None, 0), "show": (show_command, 0, 1, "--input", 1), "draw": (draw_command, 1, 2, "--decisions", 1),
+COMMANDS = {"pack": (pack_command, 1, 2, "--kind", 1), "show": (show_command, 0, 1, "--input", 1), "draw": (draw_command, 1, 2, "--decisions", 1),
             "points": (points_command, 1, 2, None, 0), "map": (map_command, 3, 4, None, 0), "energy": (energy_command, 1, math.inf, None, 0),
             "merge": (merge_command, 2, 3, None, 0), "count": (count_command, 1, math.inf, "--csv", 0),
             "csv": (csv_command, 0, 1, "--input", 1), "telemetry": (telemetry_command, 1, 2, None, 0)}

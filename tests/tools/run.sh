@@ -1,6 +1,6 @@
 #!/usr/bin/env bash
 # tools/frames.py: packs the sample flight into the kept frames, shows the kept Decisions as the kept text, and says
-# what is wrong with bad input; a flight with a keep-out area too. It draws the kept pages, counts the landings of a kept day, writes Decisions as CSV and
+# what is wrong with bad input; a flight with a keep-out area too, and one at a threshold under kinds 1 and 11. It draws the kept pages, counts the landings of a kept day, writes Decisions as CSV and
 # packs a log. Where the crate decide is there, the samples' Decisions are made anew by it.
 set -u
 top=$(cd "$(dirname "${BASH_SOURCE[0]}")/../.." && pwd)
@@ -48,6 +48,21 @@ tools/frames.py merge samples/crane.json samples/crane.json | cmp - "$build/cran
 grep -q ' ms Warn           FenceApproach ' samples/crane.txt && grep -q ' ms ReturnToLaunch FenceBreach ' samples/crane.txt || fail "the crane is no trouble"
 tail -n 1 samples/crane.txt | grep -q ' ms Nominal ' || fail "the crane is trouble to the end"
 printf '\14\0\7\0\3\1\0\0\0\0\0\0\200\77' | tools/frames.py show | grep -qx 'Area 3: 1 corners (0, 1)' || fail "an area alone is shown otherwise"
+
+# A charge that goes back and forth at a threshold. Under kind 1 its warning comes and goes three times; under kind 11 it comes once, and
+# goes when the charge has been above the clear threshold for as long as it has to be.
+tools/frames.py pack samples/flicker.json | cmp - samples/flicker.frames || fail "the flicker packs into other frames"
+tools/frames.py pack samples/flicker.json "$build/flicker1.frames" --kind 1 || fail "the flicker does not pack as kind 1"
+[ "$(cmp -l "$build/flicker1.frames" samples/flicker.frames | tr -s ' ')" = " 3 1 13" ] || fail "kinds 1 and 11 differ in more than their kind"
+tools/frames.py pack "$build/one.json" --kind 11 | tools/frames.py show | grep -x 'Config of kind 11: the defaults' >/dev/null || fail "kind 11 is shown otherwise"
+warnings() { # TEXT
+    awk '{ is = /requests BatteryWarn:Warn$/; if (is && !was) n++; was = is } END { print n }' "$1"
+}
+[ "$(warnings samples/flicker_kind_1.txt) $(warnings samples/flicker.txt)" = "3 1" ] || fail "the flicker warns otherwise"
+# A state of kind 12, fresh but for two of its last bytes.
+{ printf '\300\0\14\0' && head -c 183 /dev/zero && printf '\1\0\0\0\1\0\0'; } >"$build/raised.frames"
+tools/frames.py show "$build/raised.frames" | grep -q '^State of kind 12: .*, fresh, raised GpsLost BatteryWarn$' || fail "what is raised is shown otherwise"
+{ printf '\300\0\14\0' && head -c 190 /dev/zero; } | tools/frames.py show | grep -q ', fresh, raised none$' || fail "a fresh state of kind 12 is shown otherwise"
 
 # Document 01's input: the defaults and one all-absent telemetry.
 echo '{"telemetry": [{"now_ms": 0}]}' >"$build/absent.json"
@@ -313,6 +328,10 @@ bad pack '{"config": {"v_max": 1e400}}' '1e400 is beyond'
 bad pack "{\"config\": {\"v_max\": $(printf '9%.0s' $(seq 400))}}" 'config.v_max: a number of 400 digits is beyond'
 bad pack "$(printf '[%.0s' $(seq 100000))" 'nested too deeply'
 bad pack '{"config": {"cell_count": 256}}' 'config.cell_count: a whole number from 0 to 255'
+bad pack '{"config": {"kind": 5}}' 'config.kind: 1 or 11 is wanted, not 5'
+bad pack '{"config": {"kind": "11"}}' 'config.kind: 1 or 11 is wanted, not "11"'
+bad pack '{"config": {"kind": true}}' 'config.kind: 1 or 11 is wanted, not true'
+bad pack '{"config": {"kind": 11, "v_max": "fast"}}' 'config.v_max: a number is wanted, not "fast"'
 bad pack '{"fence": {"corners": [[1, 2], [3]]}}' 'fence.corners[1]: two numbers'
 bad pack '{"fence": {"kind": 3}}' 'fence.kind: 2 or 8 is wanted, not 3'
 bad pack '{"areas": {}}' 'areas: a list of areas is wanted'
@@ -328,6 +347,10 @@ bad show '\1' 'byte 0: the last frame is cut off (refusal 1)'
 bad show '\6\0\4\0' 'byte 0: the last frame has 2 of 6 bytes (refusal 1)'
 bad show '\1\0\0' 'byte 0: a length of 1, which is under 2 (refusal 3)'
 bad show '\2\0\11\0' 'byte 0: there is no kind 9 (refusal 2)'
+bad show "\300\0\14\0$(printf '\\0%.0s' $(seq 189))\2" 'byte 0: State of kind 12: the flag at byte 189 of the body is 2 (refusal 4)'
+bad show "\270\0\14\0$(printf '\\0%.0s' $(seq 182))" 'byte 0: State of kind 12: a body of 182 bytes is too short (refusal 3)'
+bad show "\300\0\5\0$(printf '\\0%.0s' $(seq 190))" 'byte 0: State: 8 bytes are left over (refusal 3)'
+bad show '\2\0\13\0' 'byte 0: Config of kind 11: a body of 0 bytes is too short (refusal 3)'
 bad show '\2\0\7\0' 'byte 0: Area: a body of 0 bytes is too short (refusal 3)'
 bad show '\4\0\15\0\0\0' 'byte 0: Areas: 1 bytes are left over (refusal 3)'
 bad show '\3\0\15\0\1' 'byte 0: Areas: a body of 1 bytes is too short (refusal 3)'
@@ -337,11 +360,19 @@ tools/frames.py show "$build/none" >/dev/null 2>"$build/err"
 [ $? -eq 1 ] || fail "a file that is not there is no error"
 tools/frames.py pack samples/flight.json "$build/none/flight.frames" 2>"$build/err"
 [ $? -eq 1 ] && grep -q "none/flight.frames: No such file" "$build/err" || fail "a file that can't be written: it says $(cat "$build/err")"
-for words in "" none count "count --csv" "csv --input" "show --input" "draw a --decisions" "draw --decisions a" "show a --input b --input c" "telemetry" "pack a b c" "count --cvs a"; do
+for words in "" none count "count --csv" "csv --input" "show --input" "draw a --decisions" "draw --decisions a" "show a --input b --input c" "telemetry" "pack a b c" "pack a --kind" "count --cvs a"; do
     tools/frames.py $words >"$build/out" 2>"$build/err" </dev/null
     [ $? -eq 2 ] && [ ! -s "$build/out" ] && head -n 1 "$build/err" | grep -qxF "frames.py: bad usage: frames.py${words:+ $words}" || fail "bad usage is no error: $words"
 done
 
+tools/frames.py pack samples/flicker.json --kind 2 >"$build/out" 2>"$build/err"
+[ $? -eq 1 ] && [ ! -s "$build/out" ] && grep -q -- '--kind: 1 or 11 is wanted, not "2"' "$build/err" || fail "kind 2 of a configuration: it says $(cat "$build/err")"
+
+# The flicker under both kinds.
+flicker() { # DECIDE
+    "$1" <samples/flicker.frames | tools/frames.py show --input samples/flicker.json | diff - samples/flicker.txt || fail "$1 makes other Decisions of the flicker"
+    "$1" <"$build/flicker1.frames" | tools/frames.py show --input samples/flicker.json | diff - samples/flicker_kind_1.txt || fail "$1 makes other Decisions of the flicker under kind 1"
+}
 crane() { # DECIDE
     "$1" <"$build/crane.frames" | tools/frames.py draw samples/crane.json --decisions - | cmp - samples/crane.svg || fail "the page of the crane by $1 is another"
     "$1" <"$build/crane.frames" | tools/frames.py show --input samples/crane.json | diff - samples/crane.txt || fail "$1 makes other Decisions of the crane"
@@ -352,16 +383,19 @@ if grep -q '^decide:' crates.txt; then
     crane target/bin/decide
     tools/first.sh >"$build/first" || fail "tools/first.sh fails"
     [ "$(grep -cFxf samples/decisions.txt "$build/first")" -eq $((2 * $(wc -l <samples/decisions.txt))) ] || fail "tools/first.sh does not show the sample twice"
+    flicker target/bin/decide
     { head -c 291 "$build/absent.frames" && tools/frames.py telemetry samples/log.csv; } >"$build/log.input"
     target/bin/decide <"$build/log.input" | cmp - samples/day/log.frames || fail "decide makes other Decisions of the log"
     [ "$(target/bin/decide <"$build/star.frames" | tools/frames.py show)" = "Refusal 33: NotOnceRound" ] || fail "decide takes a star as kind 8"
 fi
 # What the Rust makes of the sample. Where it is not here that is left out; an error of its build is one of this test.
-rust=$(oracle/run.sh --path decide 2>"$build/said") && streams=$(oracle/run.sh --path streams 2>"$build/said")
+rust=$(oracle/run.sh --path decide 2>"$build/said") && streams=$(oracle/run.sh --path streams 2>"$build/said") &&
+    raised=$(oracle/run.sh --path decide_raised 2>"$build/said")
 status=$?
 if [ "$status" -eq 0 ]; then
     "$rust" <samples/flight.frames | cmp - samples/decisions.frames || fail "the Rust makes other Decisions of the sample"
     crane "$rust"
+    flicker "$raised"
     "$streams" --write "$build/defaults.frames" 0 >/dev/null
     head -c -106 "$build/absent.frames" | cmp - "$build/defaults.frames" || fail "the defaults packed are not the Rust's"
 elif [ "$status" -eq 77 ]; then
@@ -370,5 +404,5 @@ else
     cat "$build/said"
     fail "the Rust can't be built"
 fi
-[ "$failed" -eq 0 ] && echo "the samples' $(cat samples/decisions.txt samples/crane.txt | wc -l) Decisions, a day of 4 flights and $tried bad inputs"
+[ "$failed" -eq 0 ] && echo "the samples' $(cat samples/decisions.txt samples/crane.txt samples/flicker.txt samples/flicker_kind_1.txt | wc -l) Decisions, a day of 4 flights and $tried bad inputs"
 exit "$failed"

@@ -1,5 +1,5 @@
 //! How long a step takes: the port's entry, the plain Rust entry, and `Supervisor::step` alone, on the same
-//! frames, in rounds that take turns; a step beside areas; frames read and written anew; then `decide` beside the Rust program
+//! frames, in rounds that take turns; a step beside areas, and one under kind 11; frames read and written anew; then `decide` beside the Rust program
 //! on one stream.
 //!   bench [PORT_DECIDE RUST_DECIDE STREAM]
 //! Nothing here passes or fails.
@@ -10,6 +10,8 @@ mod areas;
 mod clock;
 mod parts;
 mod programs;
+#[cfg(not(feature = "standin"))]
+mod raised;
 
 use std::hint::black_box;
 
@@ -144,6 +146,8 @@ fn entries(what: &str, setup: &Setup) -> Vec<Flight> {
     tell("plain Rust entry / Supervisor::step", ratio(rust, step), 3);
     parts::parts(&flights[0]);
     areas::areas(&flights);
+    #[cfg(not(feature = "standin"))]
+    raised::raised(&flights);
     flights
 }
 

@@ -219,6 +219,16 @@ pub fn step_clear(
     areas: &Areas,
     raw: &rust::Telemetry,
 ) -> (rust::Decision, u8) {
+    step_clear_by(supervisor, areas, raw, rust::Supervisor::step)
+}
+
+/// The same with another step than the Rust's, which looks at the distance in no other way.
+pub fn step_clear_by(
+    supervisor: &mut rust::Supervisor,
+    areas: &Areas,
+    raw: &rust::Telemetry,
+    step: impl FnOnce(&mut rust::Supervisor, &rust::Telemetry) -> rust::Decision,
+) -> (rust::Decision, u8) {
     let (cfg, fence) = (supervisor.cfg, supervisor.fence);
     let nearest = raw.position.map(|sample| {
         let (n, e) = (sample.pos.n, sample.pos.e);
@@ -228,7 +238,7 @@ pub fn step_clear(
         supervisor.cfg = stand_in_config(&cfg, nearest.m);
         supervisor.fence = stand_in_fence(&fence, nearest.m);
     }
-    let mut decision = supervisor.step(raw);
+    let mut decision = step(supervisor, raw);
     (supervisor.cfg, supervisor.fence) = (cfg, fence);
     // A sample that was refused has no distance.
     let nearest = nearest.filter(|_| decision.fence_dist_m.is_some());

@@ -1,4 +1,4 @@
-//! The frames of document 01, and of document 02's sides and areas, in plain Rust, over the Rust's own types, with nothing
+//! The frames of document 01, and of document 02's sides, areas and raised requests, in plain Rust, over the Rust's own types, with nothing
 //! on the heap; and the entries over them, to hold the port's entries to.
 //!
 //! The frames are there for both builds of the Rust: failsafe-core, which is the source as it is, and
@@ -8,12 +8,13 @@ mod areas;
 mod bytes;
 mod codec;
 mod entry;
+mod raised;
 mod side;
 mod state;
 
 pub use areas::{
     AREA, AREA_SIDE, AREAS, AREAS_HELD, Areas, Clearance, add_area_entry, read_areas,
-    remove_area_entry, step_clear,
+    remove_area_entry, step_clear, step_clear_by,
 };
 pub use bytes::{
     BAD_LENGTH, BAD_VALUE, Field, NO_ROOM, QUIET_NAN, TRUNCATED, WRONG_KIND, body, put_frame,
@@ -24,8 +25,12 @@ pub use codec::{
     fence_core, fence_open, put_refusal, read_fence, write_fence,
 };
 pub use entry::{
-    config_error_core, config_error_open, fresh_entry, step_areas_entry, step_entry,
-    step_side_entry,
+    Form, check_entry, config_error_core, config_error_open, fresh_entry, step_areas_entry,
+    step_by, step_entry, step_side_entry,
+};
+pub use raised::{
+    CONFIG_RAISED, Held, Hold, PAIRS, Raised, RaisedState, STATE_RAISED, answer_to, file,
+    fresh_raised_entry, held_by_pairs, pairs, raised_by, step_raised,
 };
 pub use side::{DECISION_SIDE, put_side, side_of};
 pub use state::State;
@@ -36,4 +41,5 @@ pub const TELEMETRY_FRAME: usize = 106;
 pub const DECISION_FRAME: usize = 95;
 pub const SIDE_FRAME: usize = 96;
 pub const STATE_FRAME: usize = 186;
+pub const RAISED_STATE_FRAME: usize = 194;
 pub const REFUSAL_FRAME: usize = 6;

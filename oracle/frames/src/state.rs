@@ -90,14 +90,21 @@ impl State {
     #[inline]
     pub fn read_frame(frame: &[u8]) -> Result<Self, u32> {
         let state: State = read_frame(STATE, frame)?;
-        let stored = state.glitch.last_accepted.is_none_or(|sample| {
+        if state.fits() {
+            Ok(state)
+        } else {
+            Err(BAD_VALUE)
+        }
+    }
+
+    /// The state's own rules.
+    #[inline]
+    pub(crate) fn fits(&self) -> bool {
+        let stored = self.glitch.last_accepted.is_none_or(|sample| {
             let (p, v) = (sample.pos, sample.vel);
             [p.n, p.e, p.d, v.n, v.e, v.d].iter().all(|x| x.is_finite())
         });
-        if state.triggers.gcs_stage > 3 || state.backwards_streak > 2 || !stored {
-            return Err(BAD_VALUE);
-        }
-        Ok(state)
+        self.triggers.gcs_stage <= 3 && self.backwards_streak <= 2 && stored
     }
 
     #[inline]

@@ -3,6 +3,8 @@
 
 mod sides;
 #[cfg(feature = "standin")]
+mod slips;
+#[cfg(feature = "standin")]
 mod standin;
 
 pub use sides::{Call, Entry, Sides};
@@ -70,12 +72,26 @@ unsafe extern "C" {
         output_len: usize,
     ) -> u32;
     fn failsafe_fresh(state: *mut u8, state_len: usize) -> u32;
+    fn failsafe_fresh_raised(state: *mut u8, state_len: usize) -> u32;
     #[cfg(not(feature = "standin"))]
     fn failsafe_check(
         config: *const u8,
         config_len: usize,
         fence: *const u8,
         fence_len: usize,
+    ) -> u32;
+    #[cfg(not(feature = "standin"))]
+    fn failsafe_merge(
+        config: *const u8,
+        config_len: usize,
+        fence: *const u8,
+        fence_len: usize,
+        first: *const u8,
+        first_len: usize,
+        second: *const u8,
+        second_len: usize,
+        output: *mut u8,
+        output_len: usize,
     ) -> u32;
     #[cfg(not(feature = "standin"))]
     fn failsafe_spell_fence(
@@ -203,6 +219,69 @@ pub fn remove_area(areas: &[u8], number: u8, output: &mut [u8]) -> u32 {
 pub fn fresh(state: &mut [u8]) -> u32 {
     // SAFETY: a slice that is alive.
     unsafe { failsafe_fresh(state.as_mut_ptr(), state.len()) }
+}
+
+pub fn fresh_raised(state: &mut [u8]) -> u32 {
+    // SAFETY: a slice that is alive.
+    unsafe { failsafe_fresh_raised(state.as_mut_ptr(), state.len()) }
+}
+
+/// A step by one of the three entries. The stand-in has slips of kind 11's rule.
+#[cfg(not(feature = "standin"))]
+pub fn step_raised(
+    entry: Entry,
+    config: &[u8],
+    fence: &[u8],
+    state: &mut [u8],
+    telemetry: &[u8],
+    output: &mut [u8],
+    areas: &[u8],
+) -> u32 {
+    match entry {
+        Entry::Plain => step(config, fence, state, telemetry, output),
+        Entry::Side => step_side(config, fence, state, telemetry, output),
+        Entry::Areas => step_areas(config, fence, state, telemetry, output, areas),
+    }
+}
+
+#[cfg(feature = "standin")]
+pub use standin::step_raised;
+
+/// What `failsafe_merge` answers; the stand-in has no such entry.
+#[cfg(not(feature = "standin"))]
+pub fn merge(
+    config: &[u8],
+    fence: &[u8],
+    first: &[u8],
+    second: &[u8],
+    output: &mut [u8],
+) -> Option<u32> {
+    // SAFETY: five slices that are alive and do not overlap.
+    Some(unsafe {
+        failsafe_merge(
+            config.as_ptr(),
+            config.len(),
+            fence.as_ptr(),
+            fence.len(),
+            first.as_ptr(),
+            first.len(),
+            second.as_ptr(),
+            second.len(),
+            output.as_mut_ptr(),
+            output.len(),
+        )
+    })
+}
+
+#[cfg(feature = "standin")]
+pub fn merge(
+    _config: &[u8],
+    _fence: &[u8],
+    _first: &[u8],
+    _second: &[u8],
+    _output: &mut [u8],
+) -> Option<u32> {
+    None
 }
 
 pub fn inside(fence: &[u8], points: &[u8], output: &mut [u8]) -> u32 {

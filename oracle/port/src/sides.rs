@@ -1,7 +1,8 @@
 //! Buffers, each with room around it that nobody may touch, and the plain Rust's and the port's calls on equal ones.
 
 use frames::{
-    add_area_entry, fresh_entry, remove_area_entry, step_areas_entry, step_entry, step_side_entry,
+    Form, add_area_entry, fresh_entry, fresh_raised_entry, remove_area_entry, step_areas_entry,
+    step_by, step_entry, step_side_entry,
 };
 
 /// Bytes before and after each buffer.
@@ -51,6 +52,16 @@ pub enum Entry {
     Plain,
     Side,
     Areas,
+}
+
+impl Entry {
+    pub fn form(self, areas: &[u8]) -> Form<'_> {
+        match self {
+            Entry::Plain => Form::Plain,
+            Entry::Side => Form::Side,
+            Entry::Areas => Form::Areas(areas),
+        }
+    }
 }
 
 /// What a step is handed. Only the entry with areas is handed those.
@@ -147,6 +158,52 @@ impl Sides {
         )?;
         call.state.copy_from_slice(self.rust[2].used());
         call.output.copy_from_slice(self.rust[4].used());
+        Ok(number)
+    }
+
+    /// The same, where the stand-in has slips of kind 11's rule.
+    pub fn step_raised(&mut self, call: &mut Call) -> Result<u32, String> {
+        let entry = call.entry;
+        let given: [(&str, &[u8]); 6] = [
+            ("configuration", &call.config),
+            ("fence", &call.fence),
+            ("state", &call.state),
+            ("telemetry", &call.telemetry),
+            ("output", &call.output),
+            ("areas", &call.areas),
+        ];
+        let number = self.beside(
+            given,
+            |[c, f, s, t, o, a]| {
+                let (c, f, t) = (c.used(), f.used(), t.used());
+                let form = entry.form(a.used());
+                step_by(
+                    frames::step_raised,
+                    form,
+                    c,
+                    f,
+                    s.used_mut(),
+                    t,
+                    o.used_mut(),
+                )
+            },
+            |[c, f, s, t, o, a]| {
+                let (c, f, t, a) = (c.used(), f.used(), t.used(), a.used());
+                crate::step_raised(entry, c, f, s.used_mut(), t, o.used_mut(), a)
+            },
+        )?;
+        call.state.copy_from_slice(self.rust[2].used());
+        call.output.copy_from_slice(self.rust[4].used());
+        Ok(number)
+    }
+
+    pub fn fresh_raised(&mut self, state: &mut [u8]) -> Result<u32, String> {
+        let number = self.beside(
+            [("fresh state of kind 12", state)],
+            |[s]| fresh_raised_entry(s.used_mut()),
+            |[s]| crate::fresh_raised(s.used_mut()),
+        )?;
+        state.copy_from_slice(self.rust[0].used());
         Ok(number)
     }
 

@@ -4,6 +4,8 @@
 use std::slice::{from_raw_parts, from_raw_parts_mut};
 use std::sync::OnceLock;
 
+use crate::{Entry, slips};
+
 fn fault() -> u32 {
     static FAULT: OnceLock<u32> = OnceLock::new();
     *FAULT.get_or_init(|| {
@@ -225,4 +227,71 @@ extern "C" fn failsafe_inside(
     _output_len: usize,
 ) -> u32 {
     unimplemented!()
+}
+
+/// A step by one of the three entries, with a slip of kind 11's rule or a fault of its frames.
+pub fn step_raised(
+    entry: Entry,
+    config: &[u8],
+    fence: &[u8],
+    state: &mut [u8],
+    telemetry: &[u8],
+    output: &mut [u8],
+    areas: &[u8],
+) -> u32 {
+    let keeping = config.get(2..4) == Some(&frames::CONFIG_RAISED.to_le_bytes());
+    // By kind 1's rule, where the entry is the one with areas.
+    let slip = match fault() {
+        46 if entry == Entry::Areas => 29,
+        other => other,
+    };
+    let slipping =
+        |supervisor: &mut _, raised: &mut _, raw: &_| slips::step(slip, supervisor, raised, raw);
+    let form = entry.form(areas);
+    let number = frames::step_by(slipping, form, config, fence, state, telemetry, output);
+    match fault() {
+        // A state of kind 5 is judged by its length first.
+        40 if keeping && number == 2 && state.len() == frames::STATE_FRAME => return 3,
+        // Any byte but 0 is raised.
+        41 if keeping && number == 4 && state.len() == frames::RAISED_STATE_FRAME => {
+            let mut taken = state.to_vec();
+            for byte in &mut taken[frames::STATE_FRAME..] {
+                *byte = (*byte).min(1);
+            }
+            let number =
+                frames::step_by(slipping, form, config, fence, &mut taken, telemetry, output);
+            if number == 0 {
+                state.copy_from_slice(&taken);
+            }
+            return number;
+        }
+        // Two of the eight in the wrong order.
+        42 if keeping && number == 0 => state.swap(187, 188),
+        // A state of kind 12 is taken beside kind 1.
+        43 if !keeping && number == 2 && frames::RaisedState::read_frame(state).is_ok() => {
+            return 0;
+        }
+        // The state before the configuration's rules.
+        47 if keeping && number == 27 && frames::RaisedState::read_frame(state).is_err() => {
+            return 4;
+        }
+        _ => {}
+    }
+    number
+}
+
+#[unsafe(no_mangle)]
+extern "C" fn failsafe_fresh_raised(state: *mut u8, state_len: usize) -> u32 {
+    // SAFETY: the driver hands over a slice that is alive.
+    let state = unsafe { from_raw_parts_mut(state, state_len) };
+    // A state that only has room for kind 5.
+    if fault() == 44 && (186..194).contains(&state_len) {
+        return 0;
+    }
+    let number = frames::fresh_raised_entry(state);
+    // A byte after the state.
+    if fault() == 45 && number == 0 && state_len > 194 {
+        state[194] = 0;
+    }
+    number
 }
