@@ -1,5 +1,6 @@
 -- The laws of the frames of kinds 3 and 13 that are answered one after the other. Assumes nothing.
-use Prim.Native.Nat.{ℕ, zero, suc, _+_, _-_, _≤_, _<_, zero-le}
+use Prim.Native.Nat.{ℕ, zero, suc, _+_, _-_, _≤_, _<_, zero-le, min}
+use native.Mathlib.Nat.{min-eq-left, min-eq-right, le-of-lt}
 use native.Mathlib.Omega.{arith}
 use mathlib.Core.Bool.{Bool, true, false, cond}
 use mathlib.Core.List.{List, [], _++_, append-assoc, append-nil}
@@ -7,7 +8,7 @@ use mathlib.Core.Path.{_≡_, refl, sym, _∙_, ap}
 use lib.Dec.{eqb, ltb}
 use lib.ListN.{length, take, drop, length-drop, length-append, take-append-drop}
 use lib.Seq.{length-take-le, take-all, take-at, drop-at, drop-drop, drop-length}
-use borrow.Author.Tests.{ltb-false, le-ltb, eqb-true, eq-eqb, ne-eqb}
+use borrow.Author.Tests.{ltb-true, ltb-false, le-ltb, eqb-true, eq-eqb, ne-eqb}
 use borrow.Rule.Slice.PartMut.{midOf, putMid}
 use Rattle.supervisor.specs.declared.Supervisor.{Supervisor}
 use Rattle.wire.specs.Frame.{wholeFrame, frameWritten}
@@ -137,13 +138,21 @@ module _ (out bytes : List ℕ) (put : ℕ) (fits : put + length bytes ≤ lengt
   left-then = rw (into, drop-at (take put out ++ bytes) (drop (put + length bytes) out) (put + length bytes) size)
 
 -- what the code has at the end, from how far it is
-pub ends : (p : FramesAnswer) (out held out₀ : List ℕ) (q : Progress)
-    → progress p out held ≡ q → p .put ≤ length out → length out ≡ length out₀ → drop (p .put) out ≡ drop (p .put) out₀ → p .areas ≤ 1045 → 1045 ≤ length held
-    → (p ≡ framesAnswer q) × ((out ≡ frameWritten (q .written) out₀) × ((take (p .areas) held ≡ q .areas) × (p .areas ≤ 1045)))
+pub ends : (p : FramesAnswer) (out held out₀ : List ℕ) (q : Progress) {size : ℕ}
+    → progress p out held ≡ q → p .put ≤ length out → length out ≡ length out₀ → drop (p .put) out ≡ drop (p .put) out₀ → p .areas ≤ 1045 → 1045 ≤ length held → p .taken ≤ size
+    → (p ≡ framesAnswer q) × ((out ≡ frameWritten (q .written) out₀) × ((take (p .areas) held ≡ q .areas) × ((p .taken ≤ size) × (p .put ≤ length out₀))))
 unfolding frameWritten
-ends p out held out₀ q e h l d a k =
+ends p out held out₀ q e h l d a k t =
     let room : p .areas ≤ length held = omega arith in
-    rw (← e, length-take-le (p .areas) held room, length-take-le (p .put) out h, le-ltb (length out₀) (p .put) (omega arith), ← d, take-append-drop) (refl, (refl, (refl, a)))
+    rw (← e, length-take-le (p .areas) held room, length-take-le (p .put) out h, le-ltb (length out₀) (p .put) (omega arith), ← d, take-append-drop) (refl, (refl, (refl, (t, omega arith))))
+
+-- bytes beyond a slice are none
+pub take-most : (n : ℕ) (held : List ℕ) → length held ≡ 1045 → take (min n 1045) held ≡ take n held
+take-most n held l = by (ltb n 1045) refl
+  where
+    by : (b : Bool) → ltb n 1045 ≡ b → take (min n 1045) held ≡ take n held
+    by true e = rw (min-eq-left (le-of-lt (ltb-true n 1045 e)))
+    by false e = rw (min-eq-right (ltb-false n 1045 e), take-all 1045 held (omega arith), take-all n held (omega (arith, ltb-false n 1045 e)))
 
 -- a number of bytes of the rest of the input, behind a place
 pub in-rest : (input : List ℕ) (i n : ℕ) → i ≤ length input → n ≤ length (take (length input - i) (drop i input)) → i + n ≤ length input

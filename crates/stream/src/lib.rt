@@ -436,7 +436,7 @@ fn fly_next(
 
 // Answers the frames of kinds 3 and 13 from the front of the input, as long as one is due, whole, and out has room for its answer. The
 // areas held are the first bytes of `held`, which has room for the longest frame of them.
-pub fn fly_frames(
+fn fly_within(
     f: Flight,
     due: Due,
     s: Supervisor,
@@ -450,7 +450,7 @@ pub fn fly_frames(
     ensures { λ r. ⌜ r ≡ framesAnswer (flyFrames f due s (take areas (now (held .entry))) (now (input .entry)) (length (now (out .entry)))) ⌝ }
     ensures { λ _. ⌜ now (out .exit) ≡ frameWritten (flyFrames f due s (take areas (now (held .entry))) (now (input .entry)) (length (now (out .entry))) .written) (now (out .entry)) ⌝ }
     ensures { λ r. ⌜ take (r .areas) (now (held .exit)) ≡ flyFrames f due s (take areas (now (held .entry))) (now (input .entry)) (length (now (out .entry))) .areas ⌝ }
-    ensures { λ r. ⌜ r .areas ≤ 1045 ⌝ }
+    ensures { λ r. ⌜ (r .taken ≤ length (now (input .entry))) × (r .put ≤ length (now (out .entry))) ⌝ }
 {
     let mut p = FramesAnswer {
         due: due,
@@ -467,6 +467,25 @@ pub fn fly_frames(
         turns -= 1;
     }
     p
+}
+
+// The same for any number of bytes of areas: those beyond the slice are none.
+pub fn fly_frames(
+    f: Flight,
+    due: Due,
+    s: Supervisor,
+    areas: usize,
+    input: &[u8],
+    out: &mut [u8],
+    held: &mut [u8; 1045],
+) -> FramesAnswer
+    ensures { λ r. ⌜ r ≡ framesAnswer (flyFrames f due s (take areas (now (held .entry))) (now (input .entry)) (length (now (out .entry)))) ⌝ }
+    ensures { λ _. ⌜ now (out .exit) ≡ frameWritten (flyFrames f due s (take areas (now (held .entry))) (now (input .entry)) (length (now (out .entry))) .written) (now (out .entry)) ⌝ }
+    ensures { λ r. ⌜ take (r .areas) (now (held .exit)) ≡ flyFrames f due s (take areas (now (held .entry))) (now (input .entry)) (length (now (out .entry))) .areas ⌝ }
+    ensures { λ r. ⌜ (r .taken ≤ length (now (input .entry))) × (r .put ≤ length (now (out .entry))) ⌝ }
+{
+    let n = wire::smaller(areas, 1045);
+    fly_within(f, due, s, n, input, out, held)
 }
 
 // ---- the end

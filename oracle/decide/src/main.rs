@@ -83,9 +83,37 @@ fn whole(bytes: &[u8]) -> Option<usize> {
     (bytes.len() >= length).then_some(length)
 }
 
+/// A fault to put in, by CUTHRANSI_FAULT, that the driver of the streams has to see.
+#[derive(PartialEq)]
+enum Fault {
+    None,
+    /// Ends where its output block was full once.
+    EndsEarly,
+    /// Writes each answer by itself.
+    OneByOne,
+    /// Goes on after a failed write.
+    WriteIgnored,
+    /// Ends after ten thousand reads.
+    FewReads,
+}
+
+impl Fault {
+    fn put_in() -> Self {
+        match std::env::var("CUTHRANSI_FAULT").as_deref() {
+            Ok("1") => Fault::EndsEarly,
+            Ok("2") => Fault::OneByOne,
+            Ok("3") => Fault::WriteIgnored,
+            Ok("4") => Fault::FewReads,
+            _ => Fault::None,
+        }
+    }
+}
+
 struct Output {
     bytes: Vec<u8>,
     used: usize,
+    full: bool,
+    fault: Fault,
 }
 
 impl Output {
@@ -93,16 +121,21 @@ impl Output {
     fn room(&mut self) -> std::io::Result<&mut [u8]> {
         if self.used + DECISION_FRAME > self.bytes.len() {
             self.flush()?;
+            self.full = true;
         }
         Ok(&mut self.bytes[self.used..])
     }
 
     fn flush(&mut self) -> std::io::Result<()> {
         let mut out = std::io::stdout().lock();
-        out.write_all(&self.bytes[..self.used])?;
-        out.flush()?;
+        let done = out
+            .write_all(&self.bytes[..self.used])
+            .and_then(|()| out.flush());
         self.used = 0;
-        Ok(())
+        match self.fault {
+            Fault::WriteIgnored => Ok(()),
+            _ => done,
+        }
     }
 
     fn refuse(&mut self, number: u32) -> std::io::Result<()> {
@@ -119,7 +152,10 @@ fn main() -> std::io::Result<()> {
     let mut output = Output {
         bytes: vec![0; BLOCK],
         used: 0,
+        full: false,
+        fault: Fault::put_in(),
     };
+    let mut reads = 0;
     let mut stdin = std::io::stdin().lock();
     loop {
         while let Some(length) = whole(&input[from..to]) {
@@ -129,8 +165,17 @@ fn main() -> std::io::Result<()> {
                 Err(number) => return output.refuse(number),
             }
             from += length;
+            match output.fault {
+                Fault::EndsEarly if output.full => return output.flush(),
+                Fault::OneByOne => output.flush()?,
+                _ => {}
+            }
         }
         output.flush()?;
+        reads += 1;
+        if output.fault == Fault::FewReads && reads > 10_000 {
+            return Ok(());
+        }
         input.copy_within(from..to, 0);
         (from, to) = (0, to - from);
         match stdin.read(&mut input[to..])? {

@@ -160,6 +160,63 @@ fn ending(answers: &[u8]) -> u16 {
     }
 }
 
+/// Frames enough to fill the output block of 65,536 bytes several times.
+const LONG: usize = 5000;
+
+/// Two answers to one input are alike.
+fn alike(what: &str, rust: &[u8], port: &[u8]) -> Result<(), String> {
+    if rust == port {
+        return Ok(());
+    }
+    let at = rust.iter().zip(port).position(|(a, b)| a != b);
+    let at = at.unwrap_or(rust.len().min(port.len()));
+    Err(format!(
+        "{what}: the Rust wrote {} bytes, the port {}; they differ at {at}",
+        rust.len(),
+        port.len()
+    ))
+}
+
+/// A long flight: as a file that is fed whole, in more than ten thousand reads, and to an output that is full.
+fn long(port: &Program, rust: &Program) -> Result<String, String> {
+    let mut random = Random::new(11);
+    let all = flight(&mut random, &Setup::defaults(), LONG);
+    let all = with_areas(&mut random, all).concat();
+    let file = std::env::temp_dir().join(format!("decide-long-{}", std::process::id()));
+    std::fs::write(&file, &all).map_err(|error| error.to_string())?;
+    let answers = rust
+        .answer_file(&file)
+        .and_then(|ours| Ok((ours, port.answer_file(&file)?)));
+    std::fs::remove_file(&file).map_err(|error| error.to_string())?;
+    let ((ours, _), (theirs, writes)) = answers?;
+    if ours.len() != 95 * LONG {
+        return Err(format!("{}: not an answer a step", rust.name()));
+    }
+    alike("a file fed whole", &ours, &theirs)?;
+    if writes * 100 > LONG {
+        return Err(format!("a file fed whole: {writes} writes"));
+    }
+    let mut pieces = Vec::new();
+    let mut at = 0;
+    while at < all.len() && pieces.len() < 20_000 {
+        let end = all.len().min(at + 1 + random.below(15));
+        pieces.push(all[at..end].to_vec());
+        at = end;
+    }
+    let count = pieces.len();
+    alike(
+        "in many reads",
+        &rust.answer_pieces(pieces.clone())?,
+        &port.answer_pieces(pieces)?,
+    )?;
+    for program in [rust, port] {
+        program.ends_where_full(&all[..all.len().min(4096)])?;
+    }
+    Ok(format!(
+        "{LONG} steps from a file in {writes} writes; {count} pieces, each read by itself; ends where its output is full"
+    ))
+}
+
 fn compare(port: &Program, rust: &Program, cases: usize, seed: u64) -> Result<String, String> {
     let mut random = Random::new(seed);
     let defaults = Setup::defaults();
@@ -169,6 +226,9 @@ fn compare(port: &Program, rust: &Program, cases: usize, seed: u64) -> Result<St
             return Err(format!("{}: not document 01's 95 bytes", program.name()));
         }
         program.answers_before_more(&input, &listing())?;
+    }
+    println!("{}", long(port, rust)?);
+    for program in [rust, port] {
         program.ends_unread(&input, &absent())?;
     }
     let mut endings: BTreeMap<u16, usize> = BTreeMap::new();
@@ -179,19 +239,14 @@ fn compare(port: &Program, rust: &Program, cases: usize, seed: u64) -> Result<St
             rust.answer(&mut random, &input)?,
             port.answer(&mut random, &input)?,
         );
-        if ours != theirs {
-            let at = ours.iter().zip(&theirs).position(|(a, b)| a != b);
-            let at = at.unwrap_or(ours.len().min(theirs.len()));
+        alike(&format!("case {case} of seed {seed}"), &ours, &theirs).map_err(|told| {
             let kept = std::env::temp_dir().join("decide-differs");
             let kept = std::fs::write(&kept, &input).map(|()| kept.display().to_string());
-            return Err(format!(
-                "case {case} of seed {seed}: {} bytes in; the Rust wrote {} bytes, the port {}; they differ at {at}; input kept in {}",
-                input.len(),
-                ours.len(),
-                theirs.len(),
+            format!(
+                "{told}; input kept in {}",
                 kept.unwrap_or_else(|error| error.to_string())
-            ));
-        }
+            )
+        })?;
         *endings.entry(ending(&ours)).or_default() += 1;
         written += ours.len();
     }

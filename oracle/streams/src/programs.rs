@@ -1,9 +1,13 @@
 //! A program that is fed through a pipe, and what it writes.
 
-use std::io::{Read, Write};
+use std::fs::File;
+use std::io::{ErrorKind, Read, Write};
+use std::os::fd::OwnedFd;
+use std::os::unix::net::UnixDatagram;
+use std::path::Path;
 use std::process::{Child, Command, Stdio};
 use std::sync::mpsc;
-use std::time::Duration;
+use std::time::{Duration, Instant};
 
 use random::Random;
 
@@ -122,5 +126,83 @@ impl Program {
         let ended = self.end(child);
         drop(feeder);
         ended.map_err(|told| format!("{told}, though nobody takes its answers"))
+    }
+
+    /// What it writes for a file, and in how many writes: each of them is one message of a socket.
+    pub fn answer_file(&self, file: &Path) -> Result<(Vec<u8>, usize), String> {
+        let told = |error: std::io::Error| format!("{}: {error}", self.0);
+        let (from, to) = UnixDatagram::pair().map_err(told)?;
+        let mut child = Command::new(&self.0)
+            .stdin(File::open(file).map_err(told)?)
+            .stdout(OwnedFd::from(to))
+            .spawn()
+            .map_err(told)?;
+        from.set_read_timeout(Some(Duration::from_millis(20)))
+            .map_err(told)?;
+        let (mut answer, mut writes, mut ended) = (Vec::new(), 0, false);
+        let mut message = vec![0; 1 << 17];
+        let begun = Instant::now();
+        loop {
+            match from.recv(&mut message) {
+                Ok(bytes) => {
+                    answer.extend(&message[..bytes]);
+                    writes += 1;
+                }
+                // What it wrote last may have come after the time was up.
+                Err(_) if ended => return Ok((answer, writes)),
+                Err(error)
+                    if error.kind() == ErrorKind::WouldBlock && begun.elapsed() < PATIENCE =>
+                {
+                    ended = child.try_wait().map_err(told)?.is_some();
+                }
+                Err(_) => {
+                    self.end(child)?;
+                    return Ok((answer, writes));
+                }
+            }
+        }
+    }
+
+    /// What it writes where each of these pieces is one read: each is one message of a socket, and an empty one is the end.
+    pub fn answer_pieces(&self, pieces: Vec<Vec<u8>>) -> Result<Vec<u8>, String> {
+        let told = |error: std::io::Error| format!("{}: {error}", self.0);
+        let (to, from) = UnixDatagram::pair().map_err(told)?;
+        let mut child = Command::new(&self.0)
+            .stdin(OwnedFd::from(from))
+            .stdout(Stdio::piped())
+            .spawn()
+            .map_err(told)?;
+        let feeder = std::thread::spawn(move || {
+            for piece in pieces.iter().map(Vec::as_slice).chain([&[][..]]) {
+                // A program that has refused reads no more.
+                if to.send(piece).is_err() {
+                    break;
+                }
+            }
+        });
+        let answer = self.read(&mut child);
+        feeder.join().expect("the feeder ends");
+        self.end(child)?;
+        answer
+    }
+
+    /// Where its output is full, it ends, though its input stays open.
+    pub fn ends_where_full(&self, input: &[u8]) -> Result<(), String> {
+        let told = |error: std::io::Error| format!("{}: {error}", self.0);
+        let full = File::options()
+            .write(true)
+            .open("/dev/full")
+            .map_err(told)?;
+        let mut child = Command::new(&self.0)
+            .stdin(Stdio::piped())
+            .stdout(full)
+            .stderr(Stdio::null())
+            .spawn()
+            .map_err(told)?;
+        let mut to = child.stdin.take().expect("a pipe");
+        to.write_all(input).map_err(told)?;
+        let ended = self.end(child);
+        drop(to);
+        ended.map_err(|told| format!("{told}, though its output is full"))
     }
 }

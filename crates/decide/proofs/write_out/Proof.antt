@@ -1,4 +1,6 @@
--- `decide::write_out` is safe and ends.
+-- `decide::write_out` meets its contract. Assumes nothing.
+use mathlib.Core.Path.{_≡_}
+use Prim.Native.Nat.{ℕ}
 use native.Mathlib.Omega.{arith}
 use lib.ListN.{length-take}
 use borrow.Author.Needs.{needs}
@@ -18,7 +20,7 @@ returns : tie.Need-returns
 returns c = search needs
 
 returns-2 : tie.Need-returns-2
-returns-2 c = search needs
+returns-2 c = λ e. let z : _≡_ {A = ℕ} 0 1 = cc in omega arith
 
 pub write-out-spec : {M : Type 1} → statement M
 write-out-spec =
