@@ -56,7 +56,7 @@ use Rattle.run.proofs.Run.{one-flight-claim}
 
 -- ---- the telemetry is bytes
 
-abbrev below : List ℕ → Bool
+abbrev pub below : List ℕ → Bool
 below [] = true
 below (b ∷ bs) = ltb b 256 && below bs
 
@@ -65,7 +65,7 @@ both true true e = (refl, refl)
 both true false e = absurd (false≢true e)
 both false b e = absurd (false≢true e)
 
-tested : (s : List ℕ) → below s ≡ true → Bytes s
+pub tested : (s : List ℕ) → below s ≡ true → Bytes s
 unfolding Bytes u8At
 tested [] e k = lit< tt
 tested (b ∷ bs) e zero = ltb-true b 256 (both (ltb b 256) (below bs) e .0)

@@ -115,7 +115,7 @@ accepts c state z = at (eqb (refusedFirst (flightOf c) (c .areas)) 0) refl z
     at false e z = z
 
 -- from a state image that is a state's
-stepped : (c : Call) (x : Supervisor) (state : List ℕ) → readState (flightKeeps (flightOf c)) state ≡ StateRead.Frame x → on c state .number ≡ 0 → on c state ≡ succeeded (c .withSide) (flightKeeps (flightOf c)) (step (baseSettings (flightOf c .cfg)) x (fedBy c)) (c .output)
+pub stepped : (c : Call) (x : Supervisor) (state : List ℕ) → readState (flightKeeps (flightOf c)) state ≡ StateRead.Frame x → on c state .number ≡ 0 → on c state ≡ succeeded (c .withSide) (flightKeeps (flightOf c)) (step (baseSettings (flightOf c .cfg)) x (fedBy c)) (c .output)
 unfolding stepAny stepFlight
 stepped c x state r z =
     let w = c .withSide in

@@ -1,0 +1,5 @@
+-- The proofs of the claims.
+pub mod Step
+pub mod Bytes
+pub mod Claim
+pub mod Instances

@@ -1,0 +1,1 @@
+// What rc_ok can change where rc_required is false (specs/), with no code of its own.
