@@ -1,4 +1,4 @@
-// Program `decide`: a frame of kind 1, one of kind 2 or 8, then frames of kind 3, with at most one of kind 13 before each, from
+// Program `decide`: a frame of kind 1 or 11, one of kind 2 or 8, then frames of kind 3, with at most one of kind 13 before each, from
 // standard input; frames of kind 4, and of kind 255 for a refusal, to standard output. The work is in the crates `stream` and `decided`,
 // which says what is written for the whole input; here is input and output in blocks. No contract can say what is read or written:
 // these functions say where a turn leaves the program, whatever it read.
@@ -110,7 +110,7 @@ fn main() {
     if os::arg_count() > 1 {
         io::write_all(
             STDERR_FILENO,
-            b"usage: decide, without a word: it reads frames of kinds 1, 2 or 8, 13 and 3 from standard input\n",
+            b"usage: decide, without a word: it reads frames of kinds 1 or 11, 2 or 8, 13 and 3 from standard input\n",
         );
         return;
     }
