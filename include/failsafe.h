@@ -37,7 +37,7 @@
  * of 64 (a build for another processor differs):
  *   failsafe_step        2752 bytes
  *   failsafe_step_side   2752 bytes
- *   failsafe_step_areas  3328 bytes
+ *   failsafe_step_areas  3392 bytes
  *   failsafe_add_area    960 bytes
  *   failsafe_remove_area 896 bytes
  *

@@ -57,7 +57,7 @@ bad wind_thousandths 10001 'energy.wind_thousandths: 10001 is outside its limits
 bad speed_cruise_mm_s 0 'energy.speed_cruise_mm_s: a speed of 0 (refusal 37)'
 bad power_climb_mw 1.5 'energy.power_climb_mw: a whole number is wanted, not 1.5'
 bad power_climb_mw true 'energy.power_climb_mw: a whole number is wanted, not true'
-bad power_climb_mw null 'energy.power_climb_mw: it is missing'
+bad power_climb_mw null 'energy.power_climb_mw: null is not a value here; leave out what is absent'
 tools/frames.py energy wind=3 2>"$build/err"
 [ $? -eq 1 ] && grep -q 'energy.wind: there is no such number' "$build/err" || fail "a name that is none: it says $(cat "$build/err")"
 
