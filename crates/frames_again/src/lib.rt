@@ -43,8 +43,26 @@ pub fn decision_again(d: Decision) -> DecisionRead
     frame_decision::read_decision(&b)
 }
 
-// The same for the state after a step: the very state, where the step began from one that obeys the rules.
+// The state after a step under a configuration of kind 1, by a kind 5: the very state, where the step began from one that obeys the rules
+// and had nothing raised.
 pub fn stepped_state_again(x: Supervisor, cfg: Config, fence: Geofence, raw: Telemetry) -> StateRead
+    ensures { λ r. ⌜ (cfg .«keeps_raised» ≡ false → Rules x → RaisedFits false x → r ≡ StateRead.Frame (step (baseSettings cfg) x (fedAt (fenceSite fence) raw) .supervisor)) ⌝ }
+    ensures { λ r. ⌜ r ≡ readState false (stateFrame false (step (baseSettings cfg) x (fedAt (fenceSite fence) raw) .supervisor)) ⌝ }
+{
+    let y = x.step(cfg, fence, raw);
+    let s = y.supervisor;
+    let mut b = [0u8; 186];
+    frame_state::write_state(&mut b, false, s);
+    frame_state::read_state(&b, false)
+}
+
+// The same under a configuration of either kind, by a kind 12, which holds every state.
+pub fn stepped_raised_state_again(
+    x: Supervisor,
+    cfg: Config,
+    fence: Geofence,
+    raw: Telemetry,
+) -> StateRead
     ensures { λ r. ⌜ (Rules x → r ≡ StateRead.Frame (step (baseSettings cfg) x (fedAt (fenceSite fence) raw) .supervisor)) ⌝ }
     ensures { λ r. ⌜ r ≡ readState true (stateFrame true (step (baseSettings cfg) x (fedAt (fenceSite fence) raw) .supervisor)) ⌝ }
 {

@@ -1,11 +1,12 @@
 -- `frames_again::stepped_state_again` meets its contract. Assumes nothing.
-use mathlib.Core.Bool.{true}
-use mathlib.Core.Path.{_∙_, ap, subst, sym, refl}
+use mathlib.Core.Bool.{Bool, false}
+use mathlib.Core.Path.{_∙_, ap, subst, sym}
 use borrow.Author.Needs.{needs}
 use Rattle.supervisor.specs.declared.Stepped.{Stepped}
 use Rattle.supervisor.specs.Settings.{baseSettings, fenceSite, fedAt}
-use Rattle.supervisor.specs.Rules.{Rules}
-use Rattle.supervisor.proofs.Rules.{step-rules}
+use Rattle.supervisor.specs.Step.{step}
+use Rattle.supervisor.specs.Rules.{Rules, RaisedFits}
+use Rattle.supervisor.proofs.Rules.{step-rules, step-fits}
 use Rattle.frame_state.specs.StateFrame.{readState, stateFrame}
 use Rattle.frame_state.specs.declared.StateRead.the-variants.{Frame}
 use Rattle.frame_state.proofs.Trips.{value-back}
@@ -26,12 +27,16 @@ returns c =
     let a = c .before .before .before .before .before .before .before .args in
     let x = y .result .supervisor in
     let e = y .ensures in
-    let read = c .read-state .ensures ∙ ap (readState true) (c .before .before .before .write-state .ensures .1 ∙ filled-state true x) in (
-      (λ r.
+    let read = c .read-state .ensures ∙ ap (readState false) (c .before .before .before .write-state .ensures .1 ∙ filled-state false x) in (
+      (λ k r f.
+          let fed = fedAt (fenceSite (a .fence)) (a .raw) in
+          let fits = step-fits (baseSettings (a .cfg)) (a .x) fed (subst (λ (b : Bool). RaisedFits b (a .x)) (sym k) f) in
           read
-          ∙ value-back true x (owned-typed x _ (y .ok .1 .1 .0)) (subst (λ (z : Stepped). Rules (z .supervisor)) (sym e) (step-rules (baseSettings (a .cfg)) (a .x) (fedAt (fenceSite (a .fence)) (a .raw)) r)) refl
+          ∙ value-back false x (owned-typed x _ (y .ok .1 .1 .0))
+          (subst (λ (z : Stepped). Rules (z .supervisor)) (sym e) (step-rules (baseSettings (a .cfg)) (a .x) fed r))
+          (subst (λ (z : Stepped). RaisedFits false (z .supervisor)) (sym e) (subst (λ (b : Bool). RaisedFits b (step (baseSettings (a .cfg)) (a .x) fed .supervisor)) k fits))
           ∙ (λ i. Frame (e i .supervisor))),
-      read ∙ (λ i. readState true (stateFrame true (e i .supervisor))),
+      read ∙ (λ i. readState false (stateFrame false (e i .supervisor))),
     )
 
 pub stepped-state-again-spec : {M : Type 1} → statement M
