@@ -4,12 +4,14 @@
 check:
 	.ci/run
 
-# What takes too long for the gate: the square root of all 2^32 patterns, and ten million steps beside the Rust, without and with areas, and under kind 11.
+# What takes too long for the gate: the square root of all 2^32 patterns, and ten million steps beside the Rust, without and with areas, under kind 11,
+# and on the 64-bit clock.
 long:
 	tests/sqrt/run.sh all
 	tests/entries/run.sh 10000000 20261117
 	tests/areas/run.sh 10000000 20261119
 	tests/raised/run.sh 10000000 20261121
+	tests/wide/run.sh 10000000 20261123
 
 # The fixed lists of the Rust's answers, made anew (needs the Rust's source: oracle/run.sh says where).
 lists:

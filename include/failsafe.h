@@ -7,7 +7,8 @@
  * At boot
  *
  *   1. failsafe_check(config, fence): 0, or do not fly. FAILSAFE_DEFAULT_CONFIG and FAILSAFE_DEFAULT_FENCE are ready frames.
- *   2. failsafe_fresh(state), once; failsafe_fresh_raised(state) where the configuration is of kind 11.
+ *   2. failsafe_fresh(state), once; failsafe_fresh_raised(state) where the configuration is of kind 11; failsafe_fresh_wide(state) for
+ *      a clock that does not wrap.
  *   3. failsafe_step(..) at the host's own rate, also on the ground, with `armed` false until the motors are armed. Such a step
  *      is a confirmed disarm: it answers Nominal, and timers, latches and the action shown start anew.
  *   4. Arm once position, ekf_ok, heartbeat, rc_ok and a battery reading have fresh stamps.
@@ -35,9 +36,10 @@
  *
  * Stack of a call on x86-64, the most that tests/stack measures on the sample flight beside eight areas, rounded up to a multiple
  * of 64 (a build for another processor differs):
- *   failsafe_step        2752 bytes
- *   failsafe_step_side   2752 bytes
- *   failsafe_step_areas  3392 bytes
+ *   failsafe_step        3840 bytes
+ *   failsafe_step_side   3840 bytes
+ *   failsafe_step_areas  3840 bytes
+ *   any of these on a state of kind 10 6144 bytes
  *   failsafe_add_area    960 bytes
  *   failsafe_remove_area 896 bytes
  *
@@ -50,9 +52,11 @@
  *   config         1, 11  246                 Config; beside a kind 11 eight of the requests stay until they are cleared
  *   fence          2, 8   13 + 8 * corners    corner count, min altitude, max altitude, corners north, east
  *   telemetry      3      106                 Telemetry
+ *                  9      150                 the same beside a state of kind 10, each instant in eight bytes
  *   output         4      95 or more          Decision
  *                  6      96 or more          Decision with the side of the fence: failsafe_step_side, failsafe_step_areas
  *   state          5      186                 the supervisor's state
+ *                  10     306                 the same with each instant in eight bytes: a clock that does not wrap
  *                  12     194                 the same beside a configuration of kind 11, with eight bools more: what is raised
  *   area           7      6 + 8 * corners     a keep-out area: number, corner count, corners north, east
  *   areas          13     5 to 1045, or none  count, then the bodies (number, corner count, corners) of up to eight areas, in
@@ -60,7 +64,9 @@
  *
  * A bool is a byte 0 or 1, an enum a byte in declared order from 0, an Option a byte 0 or 1 and then its
  * value, all zero bytes where absent. Floats are IEEE 754 binary32; written NaNs are 7FC00000 (hexadecimal). A
- * stamp t_ms is a clock reading of 32 bits, as now_ms; the clock may wrap.
+ * stamp t_ms is a clock reading of 32 bits, as now_ms; the clock may wrap. In kinds 9 and 10 an instant has 64 bits, and that clock does
+ * not wrap: an age is absent only where the stamp is later than now_ms, and a clock fault is a reading below the last sound one.
+ * Durations of the configuration have 32 bits beside either clock.
  *
  * The places of all fields are below, as byte offsets into the frame. The state's bytes are the library's own: a host keeps
  * them and hands them back.
@@ -71,12 +77,14 @@
  * changed:
  *
  *   1         a frame is short: under 2 bytes, or fewer than 2 + length
- *   2         not the kind due
+ *   2         not the kind due: beside a configuration of kind 1 a state of kind 5 with telemetry of kind 3, or of kind 10 with kind 9;
+ *             beside one of kind 11 a state of kind 12 with telemetry of kind 3
  *   3         a length under 2, or not the kind's, or bytes left over
  *   4         a flag or enum byte out of range; an absent value not zero; in state also a link stage above 3,
  *             a row of faults above 2, a number of the stored position or velocity that is not finite
  *   5         output under 95 bytes (failsafe_step_side, failsafe_step_areas: under 96; failsafe_fresh: state under 186;
- *             failsafe_fresh_raised: under 194; failsafe_add_area, failsafe_remove_area: output under the frame to be written)
+ *             failsafe_fresh_raised: under 194; failsafe_fresh_wide, and the new state of failsafe_widen: under 306;
+ *             failsafe_add_area, failsafe_remove_area: output under the frame to be written)
  *   10 to 18  the fence: too few corners, too many, not finite, out of envelope, duplicate, collinear, not
  *             convex, area too small, bad altitudes
  *   33        the fence, of kind 8 alone, after 16 and before 17: going round the sides, the sign of the north
@@ -87,6 +95,8 @@
  *   31        an area's number is 0, is held already, is not above the one before it in a frame of kind 13, or is to be
  *             removed and is not held
  *   32        home, (0, 0), is inside an area; on its side it is not
+ *   34        the state to be carried over has no last_now, or T's lower 32 bits are not last_now (failsafe_widen)
+ *   35        a held instant of it other than the epoch has no age at last_now, or one above T (failsafe_widen)
  *   36, 37    a number outside its limits, a speed of 0 (failsafe_whole_energy)
  *   38        the two radios' now_ms differ (failsafe_merge)
  *   39        the fence in its one form would itself be declined (failsafe_spell_fence)
@@ -108,16 +118,18 @@ extern "C" {
 /* Version of this header and the library of the same commit: the first number grows where a frame, a number or an entry's answer changes,
  * the second where something is added. No entry answers it. */
 #define FAILSAFE_VERSION_MAJOR 1
-#define FAILSAFE_VERSION_MINOR 1
-#define FAILSAFE_VERSION "1.1"
+#define FAILSAFE_VERSION_MINOR 2
+#define FAILSAFE_VERSION "1.2"
 
 /* Bytes of frames. */
 #define FAILSAFE_CONFIG_BYTES 246
 #define FAILSAFE_FENCE_BYTES(corners) (13 + 8 * (corners))
 #define FAILSAFE_TELEMETRY_BYTES 106
+#define FAILSAFE_WIDE_TELEMETRY_BYTES 150 /* beside a state of kind 10 */
 #define FAILSAFE_DECISION_BYTES 95
 #define FAILSAFE_SIDE_BYTES 96
 #define FAILSAFE_STATE_BYTES 186
+#define FAILSAFE_WIDE_STATE_BYTES 306   /* with instants of 64 bits */
 #define FAILSAFE_RAISED_STATE_BYTES 194 /* beside a configuration of kind 11 */
 #define FAILSAFE_AREA_BYTES(corners) (6 + 8 * (corners))
 #define FAILSAFE_AREAS_MOST 1045 /* eight areas of 16 corners */
@@ -132,6 +144,8 @@ enum failsafe_kind {
     FAILSAFE_KIND_SIDE = 6,
     FAILSAFE_KIND_AREA = 7,
     FAILSAFE_KIND_FENCE_ONCE_ROUND = 8,
+    FAILSAFE_KIND_WIDE_TELEMETRY = 9,
+    FAILSAFE_KIND_WIDE_STATE = 10,
     FAILSAFE_KIND_CONFIG_KEEPING = 11, /* Config: raised requests are kept until they are cleared */
     FAILSAFE_KIND_RAISED_STATE = 12,
     FAILSAFE_KIND_AREAS = 13,
@@ -216,6 +230,8 @@ enum failsafe_refusal {
     FAILSAFE_REFUSAL_AREA_NUMBER = 31,
     FAILSAFE_REFUSAL_HOME_IN_AREA = 32,
     FAILSAFE_REFUSAL_NOT_ONCE_ROUND = 33,
+    FAILSAFE_REFUSAL_OTHER_LAST_NOW = 34,
+    FAILSAFE_REFUSAL_HELD_AGE = 35,
     FAILSAFE_REFUSAL_OUTSIDE_LIMITS = 36,
     FAILSAFE_REFUSAL_SPEED_OF_ZERO = 37,
     FAILSAFE_REFUSAL_CLOCKS_DIFFER = 38,
@@ -335,6 +351,49 @@ enum failsafe_telemetry_place {
     FAILSAFE_TELEMETRY_EKF_OK = 100,              /* flag */
     FAILSAFE_TELEMETRY_EKF_OK_T_MS = 101,         /* u32, ms */
     FAILSAFE_TELEMETRY_EKF_OK_VALUE = 105         /* bool: the position estimator is healthy; no position is valid without it */
+};
+
+/* Places in a telemetry frame of kind 9: those of kind 3, each of the eleven instants (now_ms, the stamps and the heartbeat) in eight bytes. */
+enum failsafe_wide_telemetry_place {
+    FAILSAFE_WIDE_TELEMETRY_NOW_MS = 4,                 /* u64, ms: the clock at this step. It does not wrap, and must not go back */
+    FAILSAFE_WIDE_TELEMETRY_POSITION = 12,
+    FAILSAFE_WIDE_TELEMETRY_POSITION_T_MS = 13,         /* u64, ms; so every t_ms */
+    FAILSAFE_WIDE_TELEMETRY_POSITION_POS_NORTH = 21,
+    FAILSAFE_WIDE_TELEMETRY_POSITION_POS_EAST = 25,
+    FAILSAFE_WIDE_TELEMETRY_POSITION_POS_DOWN = 29,
+    FAILSAFE_WIDE_TELEMETRY_POSITION_VEL_NORTH = 33,
+    FAILSAFE_WIDE_TELEMETRY_POSITION_VEL_EAST = 37,
+    FAILSAFE_WIDE_TELEMETRY_POSITION_VEL_DOWN = 41,
+    FAILSAFE_WIDE_TELEMETRY_GPS = 45,
+    FAILSAFE_WIDE_TELEMETRY_GPS_T_MS = 46,
+    FAILSAFE_WIDE_TELEMETRY_GPS_FIX = 54,
+    FAILSAFE_WIDE_TELEMETRY_GPS_SATS = 55,
+    FAILSAFE_WIDE_TELEMETRY_GPS_SATS_VALUE = 56,
+    FAILSAFE_WIDE_TELEMETRY_GPS_HDOP = 57,
+    FAILSAFE_WIDE_TELEMETRY_GPS_HDOP_VALUE = 58,
+    FAILSAFE_WIDE_TELEMETRY_VOLTAGE_V = 62,
+    FAILSAFE_WIDE_TELEMETRY_VOLTAGE_V_T_MS = 63,
+    FAILSAFE_WIDE_TELEMETRY_VOLTAGE_V_VALUE = 71,
+    FAILSAFE_WIDE_TELEMETRY_PERCENT = 75,
+    FAILSAFE_WIDE_TELEMETRY_PERCENT_T_MS = 76,
+    FAILSAFE_WIDE_TELEMETRY_PERCENT_VALUE = 84,
+    FAILSAFE_WIDE_TELEMETRY_REMAINING_WH = 88,
+    FAILSAFE_WIDE_TELEMETRY_REMAINING_WH_T_MS = 89,
+    FAILSAFE_WIDE_TELEMETRY_REMAINING_WH_VALUE = 97,
+    FAILSAFE_WIDE_TELEMETRY_GCS_HEARTBEAT_MS = 101,
+    FAILSAFE_WIDE_TELEMETRY_GCS_HEARTBEAT_MS_VALUE = 102, /* u64, ms */
+    FAILSAFE_WIDE_TELEMETRY_ARMED = 110,
+    FAILSAFE_WIDE_TELEMETRY_ARMED_T_MS = 111,
+    FAILSAFE_WIDE_TELEMETRY_ARMED_VALUE = 119,
+    FAILSAFE_WIDE_TELEMETRY_LANDED = 120,
+    FAILSAFE_WIDE_TELEMETRY_LANDED_T_MS = 121,
+    FAILSAFE_WIDE_TELEMETRY_LANDED_VALUE = 129,
+    FAILSAFE_WIDE_TELEMETRY_RC_OK = 130,
+    FAILSAFE_WIDE_TELEMETRY_RC_OK_T_MS = 131,
+    FAILSAFE_WIDE_TELEMETRY_RC_OK_VALUE = 139,
+    FAILSAFE_WIDE_TELEMETRY_EKF_OK = 140,
+    FAILSAFE_WIDE_TELEMETRY_EKF_OK_T_MS = 141,
+    FAILSAFE_WIDE_TELEMETRY_EKF_OK_VALUE = 149
 };
 
 /* Places in a Decision's frame, kind 4 and kind 6.
@@ -529,6 +588,30 @@ uint32_t failsafe_fresh(uint8_t *state, size_t state_len);
  * disarm drops them all. RcLost waits for rc_lost_set_ms. All else is as under kind 1. A state of kind 5 beside a configuration of
  * kind 11, or of kind 12 beside one of kind 1, is refused with 2. */
 uint32_t failsafe_fresh_raised(uint8_t *state, size_t state_len);
+
+/* The same for an aircraft that stays powered for months: a fresh state of kind 10 in the first 306 bytes, all zero after its head, and
+ * the steps take a slice of exactly 306 with telemetry of kind 9. Its clock has 64 bits and does not wrap. An age is now_ms minus the
+ * stamp, and absent only where the stamp is later than now_ms; a clock fault is a reading below the last sound one. Durations stay
+ * 32-bit and are compared exactly: an age of 4,294,967,296 is above a limit of 4,294,967,295, and an absent heartbeat, which counts as
+ * 4,294,967,295, is not. There is no upper limit on a quiet stretch or another hold. All else is as with kinds 3 and 5, in every entry
+ * that steps. Beside a configuration of kind 11 a state of kind 10 or telemetry of kind 9 is refused with 2, and so is telemetry of the
+ * other clock than the state's. */
+uint32_t failsafe_fresh_wide(uint8_t *state, size_t state_len);
+
+/* A running state of kind 5 carried over to the 64-bit clock, without landing: `old` is the state, `last_now` is T, the last sound
+ * reading in 64 bits, and the state of kind 10 stands in the first 306 bytes of new_state; later bytes stay. Each held instant becomes
+ * T minus its age on the 32-bit clock, last_now becomes T, and the epoch becomes T minus its age, or T where it has no age or one above
+ * T; no Decision looks at it. The old state stays as it is: keep it until this one answers 0. From then on hand over telemetry of
+ * kind 9 on the same clock. As long as no reading goes back, no stamp is ahead of its reading, and every age, those of what is
+ * held too, and every gap between readings is under 2,147,483,648 ms, the Decisions are those of the 32-bit clock.
+ *
+ * Refusals, in this order, with no byte changed: those of the old state's frame, with a kind 5 due; 34 where it has no last_now (it has
+ * not been stepped yet: take failsafe_fresh_wide), or T's lower 32 bits are not last_now; 35 where a held instant (a timer, the
+ * recovery's start, the disarm hold, the stored position's stamp) has no age at last_now, as of a position stamped ahead or of a timer that
+ * has run for 2,147,483,648 ms, or has one above T; 5 where new_state has under 306 bytes. After 35 a host goes on with the old state
+ * and asks again after a later step. */
+uint32_t failsafe_widen(const uint8_t *old, size_t old_len, uint64_t last_now,
+                        uint8_t *new_state, size_t new_state_len);
 
 /* A test load that everyone can make: the next telemetry frame of a trial flight in the first 106 bytes of
  * output; later bytes stay. The generator is 9 bytes: x (4), now_ms (4), and a byte that is 0 before the

@@ -97,6 +97,68 @@ for file in "$src"/*.rs; do
         "$file" | put "$here/target/failsafe-open/src/$(basename "$file")"
 done
 
+# The open copy once more with every instant in 64 bits, as document 02's L7 has them: an age is absent only where the stamp is later
+# than now, a clock fault is a reading below the last sound one, and durations stay 32-bit. A text that is not found exactly so often
+# is an error.
+widened() { # FILE [TIMES FROM TO] ..
+    local name=$1 text rest times from to found
+    text=$(cat "$here/target/failsafe-open/src/$name")
+    shift
+    while [ $# -gt 0 ]; do
+        times=$1 from=$2 to=$3
+        shift 3
+        rest=$text found=0
+        while [[ $rest == *"$from"* ]]; do
+            rest=${rest#*"$from"}
+            found=$((found + 1))
+        done
+        if [ "$found" -ne "$times" ]; then
+            echo "the Rust in 64 bits: $name has $found times, not $times: $from" >&2
+            exit 1
+        fi
+        text=${text//"$from"/"$to"}
+    done
+    printf '%s\n' "$text" | put "$here/target/failsafe-wide/src/$name"
+}
+manifest failsafe-wide src/lib.rs
+widened config.rs
+widened energy.rs
+widened geometry.rs
+widened types.rs \
+    3 'pub t_ms: u32,' 'pub t_ms: u64,' \
+    1 'pub now_ms: u32,' 'pub now_ms: u64,' \
+    1 'pub gcs_heartbeat_ms: Option<u32>,' 'pub gcs_heartbeat_ms: Option<u64>,'
+widened time.rs \
+    1 $'use crate::types::HALF_RANGE_MS;\n\n' '' \
+    1 '(now: u32, then: u32) -> Option<u32>' '(now: u64, then: u64) -> Option<u64>' \
+    1 $'let diff = now.wrapping_sub(then);\n    if diff >= HALF_RANGE_MS {\n        None\n    } else {\n        Some(diff)\n    }' \
+    'now.checked_sub(then)' \
+    1 '(now: u32, t_ms: u32, limit_ms: u32)' '(now: u64, t_ms: u64, limit_ms: u32)' \
+    1 'age <= limit_ms' 'age <= u64::from(limit_ms)'
+widened lib.rs \
+    1 'pub last_now: Option<u32>,' 'pub last_now: Option<u64>,' \
+    1 'pub epoch_start: u32,' 'pub epoch_start: u64,' \
+    1 $'let delta = raw.now_ms.wrapping_sub(last);\n            if delta >= types::HALF_RANGE_MS {' 'if raw.now_ms < last {'
+widened triggers.rs \
+    1 'pub since_ms: Option<u32>,' 'pub since_ms: Option<u64>,' \
+    2 'now: u32, active: bool' 'now: u64, active: bool' \
+    1 'a >= hold_ms' 'a >= u64::from(hold_ms)' \
+    2 'now_ms: u32,' 'now_ms: u64,' \
+    2 'unwrap_or(u32::MAX)' 'unwrap_or(u64::from(u32::MAX))' \
+    1 'gcs_age > cfg.gcs_rtl_ms' 'gcs_age > u64::from(cfg.gcs_rtl_ms)' \
+    1 'gcs_age > cfg.gcs_hold_ms' 'gcs_age > u64::from(cfg.gcs_hold_ms)' \
+    1 'gcs_age > cfg.gcs_warn_ms' 'gcs_age > u64::from(cfg.gcs_warn_ms)' \
+    1 'gcs_age <= cfg.gcs_clear_ms' 'gcs_age <= u64::from(cfg.gcs_clear_ms)'
+widened disarm.rs \
+    1 'pub hold_since_ms: Option<u32>,' 'pub hold_since_ms: Option<u64>,' \
+    1 'now_ms: u32,' 'now_ms: u64,' \
+    1 'age >= cfg.disarm_hold_ms' 'age >= u64::from(cfg.disarm_hold_ms)'
+widened arbiter.rs \
+    1 'pub recovery_since_ms: Option<u32>,' 'pub recovery_since_ms: Option<u64>,' \
+    1 'now_ms: u32,' 'now_ms: u64,' \
+    1 'a >= cfg.recovery_hold_ms' 'a >= u64::from(cfg.recovery_hold_ms)'
+widened validate.rs 8 'now_ms: u32,' 'now_ms: u64,'
+
 profile=release features=() path= test=
 while :; do
     case $1 in

@@ -15,7 +15,9 @@
   frames.py csv [FILE] [--input FILE]   writes Decisions as CSV, a row for each with every field (FILE, --input: as for show;
                                         --input puts in the telemetry's time, now_ms). Any other frame is an error, and a
                                         refusal ends with status 1 after the rows before it
-  frames.py telemetry LOG.csv [FILE]    packs the rows of a log into telemetry frames; the columns are below
+  frames.py telemetry LOG.csv [FILE] [--kind KIND]
+                                        packs the rows of a log into telemetry frames; the columns are below (--kind: 3 or
+                                        9, the frames' kind; left out: 3)
   frames.py draw INPUT [FILE]           draws the fence of a flight or of frames (INPUT: - for standard input) as SVG,
                                         north up, with the number of each side, in the order in which the fence is held,
                                         and every area that is held at some time, with its number
@@ -46,7 +48,8 @@ A flight is an object with these members, each of which may be left out:
   "areas"      a list of keep-out areas: {"number": 1, "corners": [[north, east], ...], "from_ms": 5000, "until_ms": 60000};
                held at each reading of the clock from "from_ms" (left out: 0) to below "until_ms" (left out: always).
                Where those held change, a frame of kind 13 with all of them stands before the telemetry
-  "telemetry"  a list of readings; each has "now_ms", and what is left out of it is absent:
+  "telemetry"  a list of readings; each has "now_ms", and what is left out of it is absent. "kind" is 3 or 9 (left out: 3): under kind
+               9 "now_ms" and the stamps have 64 bits, up to 18446744073709551615 (`decide` takes kind 3 alone):
      "position"          {"pos": [n, e, d], "vel": [n, e, d]}
      "gps"               {"fix": "None" | "Fix2D" | "Fix3D", "sats": 14, "hdop": 0.9}
      "battery"           {"voltage_v": 16.1, "percent": 80, "remaining_wh": 32}
@@ -94,14 +97,16 @@ import struct
 import sys
 
 CONFIG, FENCE, TELEMETRY, DECISION, STATE, DECISION_SIDE, AREA, FENCE_ONCE_ROUND, AREAS, REFUSAL = 1, 2, 3, 4, 5, 6, 7, 8, 13, 255
-CONFIG_RAISED, STATE_RAISED = 11, 12
+TELEMETRY_WIDE, STATE_WIDE, CONFIG_RAISED, STATE_RAISED = 9, 10, 11, 12
 CONFIGS = (CONFIG, CONFIG_RAISED)
 FENCES = (FENCE, FENCE_ONCE_ROUND)
+TELEMETRIES = (TELEMETRY, TELEMETRY_WIDE)
+WIDE = (TELEMETRY_WIDE, STATE_WIDE)
 DECISIONS = (DECISION, DECISION_SIDE)
 AREA_SIDE, NO_SIDE = 254, 255
 KINDS = {CONFIG: "Config", FENCE: "Fence", FENCE_ONCE_ROUND: "Fence of kind 8", TELEMETRY: "Telemetry", DECISION: "Decision", STATE: "State",
          DECISION_SIDE: "Decision with its side", AREA: "Area", AREAS: "Areas", REFUSAL: "Refusal",
-         CONFIG_RAISED: "Config of kind 11", STATE_RAISED: "State of kind 12"}
+         TELEMETRY_WIDE: "Telemetry of kind 9", STATE_WIDE: "State of kind 10", CONFIG_RAISED: "Config of kind 11", STATE_RAISED: "State of kind 12"}
 ACTIONS = ["Nominal", "Warn", "Hold", "ReturnToLaunch", "Land"]
 REASONS = ["None", "ClockFault", "InvalidInput", "StaleBattery", "GcsLinkLost", "RcLost", "GpsDegraded", "GpsLost",
            "EkfUnhealthy", "PositionInvalid", "FenceApproach", "FenceBreach", "AltitudeMax", "AltitudeMin", "BatteryWarn",
@@ -117,7 +122,8 @@ REFUSALS = {
     20: "HomeOutsideFence", 21: "RtlAltOutsideFence", 22: "NonFiniteParam", 23: "NonPositiveSpeed", 24: "NegativePower",
     25: "BadCellCount", 26: "BadCapacity", 27: "BadThresholdOrder", 28: "DurationOutOfRange",
     30: "a ninth area", 31: "the area's number is 0, held already, out of order or not held", 32: "home is inside the area",
-    33: "NotOnceRound", 38: "the two radios' clock readings differ", 39: "the fence in its one form would be declined",
+    33: "NotOnceRound", 34: "there is no last reading, or the 64-bit one has another lower half",
+    35: "a held instant has no age at the last reading, or one above it", 38: "the two radios' clock readings differ", 39: "the fence in its one form would be declined",
 }
 # Config in declared order: its name, its type (u8, f32, flag or u32), its default.
 CONFIG_FIELDS = [
@@ -198,6 +204,15 @@ def pack_u32(value, where):
     return struct.pack("<I", u32(value, where))
 
 
+def pack_u64(value, where):
+    return struct.pack("<Q", u32(value, where, 0xFFFFFFFFFFFFFFFF))
+
+
+def pack_instant(kind):
+    """How an instant of a frame of this kind is packed."""
+    return pack_u64 if kind in WIDE else pack_u32
+
+
 def pack_f32(value, where):
     if isinstance(value, bool) or not isinstance(value, (int, float)):
         raise Bad(f"{where}: a number is wanted, not {json.dumps(value)}")
@@ -236,7 +251,7 @@ def pack_vec3(value, where):
     return b"".join(pack_f32(x, f"{where}[{k}]") for k, x in enumerate(value))
 
 
-def stamped(pack, now):
+def stamped(pack, now, instant):
     """A value alone has the stamp `now`."""
 
     def whole(value, where):
@@ -244,26 +259,26 @@ def stamped(pack, now):
             value = members(value, where, ["t_ms", "value"])
             if "value" not in value:
                 raise Bad(f"{where}.value: it is missing")
-            return pack_u32(value.get("t_ms", now), f"{where}.t_ms") + pack(value["value"], f"{where}.value")
-        return struct.pack("<I", now) + pack(value, where)
+            return instant(value.get("t_ms", now), f"{where}.t_ms") + pack(value["value"], f"{where}.value")
+        return instant(now, where) + pack(value, where)
 
     return whole
 
 
-def position(now):
+def position(now, instant):
     def pack(value, where):
         value = members(value, where, ["t_ms", "pos", "vel"])
-        return (pack_u32(value.get("t_ms", now), f"{where}.t_ms")
+        return (instant(value.get("t_ms", now), f"{where}.t_ms")
                 + pack_vec3(value.get("pos"), f"{where}.pos")
                 + pack_vec3(value.get("vel", [0, 0, 0]), f"{where}.vel"))
 
     return pack
 
 
-def gps(now):
+def gps(now, instant):
     def pack(value, where):
         value = members(value, where, ["t_ms", "fix", "sats", "hdop"])
-        return (pack_u32(value.get("t_ms", now), f"{where}.t_ms")
+        return (instant(value.get("t_ms", now), f"{where}.t_ms")
                 + pack_name(FIXES)(value.get("fix"), f"{where}.fix")
                 + option(value.get("sats"), 1, pack_u8, f"{where}.sats")
                 + option(value.get("hdop"), 4, pack_f32, f"{where}.hdop"))
@@ -271,22 +286,28 @@ def gps(now):
     return pack
 
 
-def telemetry_body(value, where):
-    known = ["now_ms", "position", "gps", "battery", "gcs_heartbeat_ms", "armed", "landed", "rc_ok", "ekf_ok"]
+def telemetry_frame(value, where):
+    """A reading as a frame of the kind that it says."""
+    known = ["kind", "now_ms", "position", "gps", "battery", "gcs_heartbeat_ms", "armed", "landed", "rc_ok", "ekf_ok"]
     value = members(value, where, known)
-    now = u32(value.get("now_ms"), f"{where}.now_ms")
-    cells = ["voltage_v", "percent", "remaining_wh"]
+    kind = value.get("kind", TELEMETRY)
+    if isinstance(kind, bool) or kind not in TELEMETRIES:
+        raise Bad(f"{where}.kind: 3 or 9 is wanted, not {json.dumps(kind)}")
+    return frame(kind, telemetry_body(value, where, pack_instant(kind)))
+
+
+def telemetry_body(value, where, instant):
+    now = value.get("now_ms")
+    body = instant(now, f"{where}.now_ms")
+    wide, cells = len(body), ["voltage_v", "percent", "remaining_wh"]
     battery = members(value.get("battery", {}), f"{where}.battery", cells)
-    body = struct.pack("<I", now)
-    body += option(value.get("position"), 28, position(now), f"{where}.position")
-    body += option(value.get("gps"), 12, gps(now), f"{where}.gps")
+    body += option(value.get("position"), wide + 24, position(now, instant), f"{where}.position")
+    body += option(value.get("gps"), wide + 8, gps(now, instant), f"{where}.gps")
     for name in cells:
-        body += option(battery.get(name), 8, stamped(pack_f32, now), f"{where}.battery.{name}")
-    body += option(value.get("gcs_heartbeat_ms"), 4, pack_u32, f"{where}.gcs_heartbeat_ms")
-    body += option(value.get("armed"), 5, stamped(pack_flag, now), f"{where}.armed")
-    body += option(value.get("landed"), 5, stamped(pack_name(LANDED), now), f"{where}.landed")
-    body += option(value.get("rc_ok"), 5, stamped(pack_flag, now), f"{where}.rc_ok")
-    body += option(value.get("ekf_ok"), 5, stamped(pack_flag, now), f"{where}.ekf_ok")
+        body += option(battery.get(name), wide + 4, stamped(pack_f32, now, instant), f"{where}.battery.{name}")
+    body += option(value.get("gcs_heartbeat_ms"), wide, instant, f"{where}.gcs_heartbeat_ms")
+    for name, pack in (("armed", pack_flag), ("landed", pack_name(LANDED)), ("rc_ok", pack_flag), ("ekf_ok", pack_flag)):
+        body += option(value.get(name), wide + 1, stamped(pack, now, instant), f"{where}.{name}")
     return body
 
 
@@ -329,11 +350,11 @@ def pack_corners(corners, where, whose):
     return bytes([len(corners)]), packed
 
 
-def area_of(value, where):
-    """An area: from when and until when it is held, and its body."""
+def area_of(value, where, most):
+    """An area: from when and until when it is held, and its body. No reading is above `most`."""
     value = members(value, where, ["number", "corners", "from_ms", "until_ms"])
-    since = u32(value.get("from_ms", 0), f"{where}.from_ms")
-    until = u32(value["until_ms"], f"{where}.until_ms") if "until_ms" in value else 1 << 32
+    since = u32(value.get("from_ms", 0), f"{where}.from_ms", most)
+    until = u32(value["until_ms"], f"{where}.until_ms", most) if "until_ms" in value else most + 1
     if until <= since:
         raise Bad(f"{where}.until_ms: {until} is not after from_ms, {since}")
     return since, until, pack_u8(value.get("number"), f"{where}.number") + b"".join(pack_corners(value.get("corners"), f"{where}.corners", "an area"))
@@ -363,16 +384,17 @@ def list_of(flight, name, what):
 def pack_flight(flight, kind=None):
     flight = members(flight, "flight", ["config", "fence", "areas", "telemetry"])
     frames = [config_frame(flight.get("config", {}), kind), fence_frame(flight.get("fence", {}))]
-    areas = [area_of(value, f"areas[{k}]") for k, value in enumerate(list_of(flight, "areas", "areas"))]
+    packed = [telemetry_frame(value, f"telemetry[{k}]") for k, value in enumerate(list_of(flight, "telemetry", "readings"))]
+    most = 0xFFFFFFFFFFFFFFFF if any(telemetry[2] in WIDE for telemetry in packed) else 0xFFFFFFFF
+    areas = [area_of(value, f"areas[{k}]", most) for k, value in enumerate(list_of(flight, "areas", "areas"))]
     before = []
-    for k, value in enumerate(list_of(flight, "telemetry", "readings")):
-        body = telemetry_body(value, f"telemetry[{k}]")
+    for telemetry, value in zip(packed, flight.get("telemetry", [])):
         now = value["now_ms"]
         held_now = [area for since, until, area in areas if since <= now < until]
         if held_now != before:
             frames.append(areas_frame(held_now))
             before = held_now
-        frames.append(frame(TELEMETRY, body))
+        frames.append(telemetry)
     return b"".join(frames)
 
 
@@ -396,6 +418,12 @@ class Body:
 
     def u32(self):
         return struct.unpack("<I", self.take(4))[0]
+
+    def instant(self):
+        return struct.unpack("<Q", self.take(8))[0] if self.kind in WIDE else self.u32()
+
+    def instant_bytes(self):
+        return 8 if self.kind in WIDE else 4
 
     def f32(self):
         return struct.unpack("<f", self.take(4))[0]
@@ -477,32 +505,32 @@ def show_areas(body):
 
 
 def show_telemetry(body):
-    now = body.u32()
-    told = [f"Telemetry: now {now}"]
+    now, wide = body.instant(), body.instant_bytes()
+    told = [f"{KINDS[body.kind]}: now {now}"]
 
     def stamped_by(read):
-        return lambda: (body.u32(), read())
+        return lambda: (body.instant(), read())
 
     def tell(name, reading, text):
         if reading is not None:
-            age = (now - reading[0]) & 0xFFFFFFFF
-            told.append(f"{name} {text(reading)}" + (f" ({age} ms old)" if age else ""))
+            age = now - reading[0] if body.kind in WIDE else (now - reading[0]) & 0xFFFFFFFF
+            told.append(f"{name} {text(reading)}" + (f" ({age} ms old)" if age > 0 else f" ({-age} ms ahead)" if age else ""))
 
     def read_gps():
-        return body.u32(), body.name(FIXES), body.option(1, body.u8), body.option(4, body.f32)
+        return body.instant(), body.name(FIXES), body.option(1, body.u8), body.option(4, body.f32)
 
-    tell("position", body.option(28, lambda: (body.u32(), body.vec3(), body.vec3())),
+    tell("position", body.option(wide + 24, lambda: (body.instant(), body.vec3(), body.vec3())),
          lambda r: f"{numbers(r[1])} velocity {numbers(r[2])}")
-    tell("gps", body.option(12, read_gps), lambda r: f"{r[1]} sats {'-' if r[2] is None else r[2]} hdop {number(r[3])}")
+    tell("gps", body.option(wide + 8, read_gps), lambda r: f"{r[1]} sats {'-' if r[2] is None else r[2]} hdop {number(r[3])}")
     for name in ["voltage_v", "percent", "remaining_wh"]:
-        tell(name, body.option(8, stamped_by(body.f32)), lambda r: number(r[1]))
-    heartbeat = body.option(4, body.u32)
+        tell(name, body.option(wide + 4, stamped_by(body.f32)), lambda r: number(r[1]))
+    heartbeat = body.option(wide, body.instant)
     tell("heartbeat", None if heartbeat is None else (heartbeat, ""), lambda r: "seen")
     yes = {True: "yes", False: "no"}
-    tell("armed", body.option(5, stamped_by(body.flag)), lambda r: yes[r[1]])
-    tell("landed", body.option(5, stamped_by(lambda: body.name(LANDED))), lambda r: r[1])
-    tell("rc_ok", body.option(5, stamped_by(body.flag)), lambda r: yes[r[1]])
-    tell("ekf_ok", body.option(5, stamped_by(body.flag)), lambda r: yes[r[1]])
+    tell("armed", body.option(wide + 1, stamped_by(body.flag)), lambda r: yes[r[1]])
+    tell("landed", body.option(wide + 1, stamped_by(lambda: body.name(LANDED))), lambda r: r[1])
+    tell("rc_ok", body.option(wide + 1, stamped_by(body.flag)), lambda r: yes[r[1]])
+    tell("ekf_ok", body.option(wide + 1, stamped_by(body.flag)), lambda r: yes[r[1]])
     return ", ".join(told)
 
 
@@ -550,7 +578,7 @@ def show_state(body):
     told += ["battery latch"] * body.flag() + ["energy latch"] * body.flag()
 
     def timer(name):
-        since = body.option(4, body.u32)
+        since = body.option(body.instant_bytes(), body.instant)
         if since is not None:
             told.append(f"{name} since {since}")
 
@@ -562,11 +590,11 @@ def show_state(body):
     told.append(f"shown {body.name(ACTIONS)} for {body.name(REASONS)}")
     timer("recovery")
     timer("disarm hold")
-    stored = body.option(28, lambda: (body.u32(), body.vec3(), body.vec3()))
+    stored = body.option(body.instant_bytes() + 24, lambda: (body.instant(), body.vec3(), body.vec3()))
     told.append("no stored position" if stored is None else f"stored position {numbers(stored[1])} at {stored[0]}")
     told.append(f"refused samples {body.u8()}")
     timer("last_now")
-    told.append(f"epoch_start {body.u32()}")
+    told.append(f"epoch_start {body.instant()}")
     told.append(f"faults in a row {body.u8()}")
     told.append("begun" if body.flag() else "fresh")
     if body.kind == STATE_RAISED:
@@ -599,7 +627,8 @@ def read_refusal(body):
 def show_frame(body):
     """A frame that is no Decision, as a line."""
     shows = {CONFIG: show_config, FENCE: show_fence, FENCE_ONCE_ROUND: show_fence, TELEMETRY: show_telemetry, STATE: show_state,
-             AREA: show_areas, AREAS: show_areas, REFUSAL: read_refusal, CONFIG_RAISED: show_config, STATE_RAISED: show_state}
+             AREA: show_areas, AREAS: show_areas, REFUSAL: read_refusal, CONFIG_RAISED: show_config, STATE_RAISED: show_state,
+             TELEMETRY_WIDE: show_telemetry, STATE_WIDE: show_state}
     line = shows[body.kind](body)
     body.end()
     return line
@@ -696,8 +725,12 @@ AXES = ["north", "east", "down"]
 STAMPED = ["battery.voltage_v", "battery.percent", "battery.remaining_wh", "armed", "landed", "rc_ok", "ekf_ok"]
 
 
-def whole_cell(text):
-    return int(text) if text.isascii() and text.isdigit() and len(text) <= 10 else text
+def whole_cell(text, digits=10):
+    return int(text) if text.isascii() and text.isdigit() and len(text) <= digits else text
+
+
+def wide_cell(text):
+    return whole_cell(text, 20)
 
 
 def float_cell(text):
@@ -714,9 +747,9 @@ def flag_cell(text):
     return {"true": True, "1": True, "false": False, "0": False}.get(text.lower(), text)
 
 
-def log_columns():
-    """A log's columns: name, where its value stands in a reading, how its text is read, how `pack` packs it."""
-    whole, real, flag = (whole_cell, pack_u32), (float_cell, pack_f32), (flag_cell, pack_flag)
+def log_columns(kind):
+    """The columns of a log for this kind: name, where its value stands in a reading, how its text is read, how `pack` packs it."""
+    whole, real, flag = (wide_cell if kind in WIDE else whole_cell, pack_instant(kind)), (float_cell, pack_f32), (flag_cell, pack_flag)
     values = {"armed": flag, "rc_ok": flag, "ekf_ok": flag, "landed": (str, pack_name(LANDED))}
     columns = [("now_ms", ["now_ms"], *whole), ("position.t_ms", ["position", "t_ms"], *whole)]
     columns += [(f"position.{name}.{axis}", ["position", name, axis], *real) for name in ("pos", "vel") for axis in AXES]
@@ -760,7 +793,7 @@ def reading_of(cells, columns):
 
 
 def check_columns(header):
-    known = [name for name, _, _, _ in log_columns()]
+    known = [name for name, _, _, _ in log_columns(TELEMETRY)]
     for name in header:
         if name not in known:
             raise Bad(f"there is no column {json.dumps(name)}; there are {', '.join(known)}")
@@ -781,22 +814,22 @@ def log_rows(text):
         raise Bad(f"line {rows.line_num}: {error}") from None
 
 
-def telemetry_row(cells, columns):
+def telemetry_row(cells, columns, kind):
     reading = reading_of(cells, columns)
     if "now_ms" not in reading:
         raise Bad("column now_ms: it is empty")
-    return frame(TELEMETRY, telemetry_body(reading, "telemetry"))
+    return telemetry_frame({"kind": kind, **reading}, "telemetry")
 
 
-def pack_log(text):
-    """Telemetry frames, one for each row."""
-    rows, columns, frames = log_rows(text), log_columns(), []
+def pack_log(text, kind):
+    """Telemetry frames of this kind, one for each row."""
+    rows, columns, frames = log_rows(text), log_columns(kind), []
     first, header = next(rows, (1, []))
     with_place(f"line {first}", lambda: check_columns(header))
     for line, row in rows:
         if len(row) != len(header):
             raise Bad(f"line {line}: {len(row)} cells, and there are {len(header)} columns")
-        frames.append(with_place(f"line {line}", lambda: telemetry_row(dict(zip(header, row)), columns)))
+        frames.append(with_place(f"line {line}", lambda: telemetry_row(dict(zip(header, row)), columns, kind)))
     if not frames:
         raise Bad(f"line {first + 1}: there is no row under the columns' names")
     return b"".join(frames)
@@ -1141,12 +1174,12 @@ def svg_line(x, y, x1, y1, stroke=INK, more=""):
     return f'<line x1="{x:.1f}" y1="{y:.1f}" x2="{x1:.1f}" y2="{y1:.1f}" stroke="{stroke}"{more}/>'
 
 
-def elapsed(times):
+def elapsed(times, wraps):
     """Seconds of each step on a clock that goes on where the 32 bits wrap. A reading that went back stays where the last one was."""
     last, at, seconds = times[0], times[0], []
     for now in times:
-        age = (now - last) & 0xFFFFFFFF
-        if age < 1 << 31:
+        age = (now - last) & 0xFFFFFFFF if wraps else now - last
+        if age < 1 << 31 if wraps else age >= 0:
             last, at = now, at + age
         seconds.append(at / 1000)
     return seconds
@@ -1350,8 +1383,8 @@ def draw_legend(decisions, ends, areas, left, top):
 
 def way_of(frames, decisions):
     """North, east and the action shown, of each step that took a position: its Decision has a distance then."""
-    bodies = [bytes_ for _, kind, bytes_ in frames if kind == TELEMETRY]
-    return [(*struct.unpack_from("<ff", bytes_, 9), one["action"]) for bytes_, one in zip(bodies, decisions) if one["fence_dist_m"] is not None]
+    bodies = [(bytes_, 17 if kind in WIDE else 9) for _, kind, bytes_ in frames if kind in TELEMETRIES]
+    return [(*struct.unpack_from("<ff", bytes_, at), one["action"]) for (bytes_, at), one in zip(bodies, decisions) if one["fence_dist_m"] is not None]
 
 
 def setting_of(frames, name):
@@ -1368,7 +1401,7 @@ def draw_flight(frames, decisions):
         raise Bad("a fence of 3 corners or more, each within ±10,000 m, can be drawn")
     if not decisions or None in times:
         raise Bad("there is no step to draw")
-    ends, place = time_scale(elapsed(times))
+    ends, place = time_scale(elapsed(times, TELEMETRY_WIDE not in [kind for _, kind, _ in frames]))
     lanes, way = lanes_of(decisions), way_of(frames, decisions)
     approach, marginal = setting_of(frames, "fence_approach_m"), setting_of(frames, "energy_marginal_wh")
     band = 54
@@ -1475,8 +1508,10 @@ def checked_frames(path):
     """The frames of a flight, kind and body, each telemetry as `show` takes it."""
     frames = []
     for at, kind, bytes_ in frames_of(path):
-        if kind == TELEMETRY:
+        if kind in TELEMETRIES:
             with_place(f"{named(path)}: byte {at}", lambda: show_frame(Body(kind, bytes_)))
+        if kind == TELEMETRY_WIDE:
+            raise Bad(f"{named(path)}: byte {at}: {KINDS[kind]}, where kind 3 is due (refusal 2)")
         frames.append((kind, bytes_))
     return frames
 
@@ -1610,7 +1645,8 @@ def frames_of(path):
 
 def times_in(frames):
     """The clock reading of each telemetry; None where its frame is too short to have one."""
-    return [struct.unpack_from("<I", body)[0] if len(body) >= 4 else None for _, kind, body in frames if kind == TELEMETRY]
+    telemetries = [("<Q" if kind in WIDE else "<I", body) for _, kind, body in frames if kind in TELEMETRIES]
+    return [struct.unpack_from(form, body)[0] if len(body) >= struct.calcsize(form) else None for form, body in telemetries]
 
 
 def corners_in(frames):
@@ -1744,9 +1780,11 @@ def csv_command(words, stepped=None):
     with_place(named(path), lambda: compare(steps, refusals, [None] * steps if times is None else times, stepped))
 
 
-def telemetry_command(words):
+def telemetry_command(words, kind="3"):
+    if kind not in map(str, TELEMETRIES):
+        raise Bad(f"--kind: 3 or 9 is wanted, not {json.dumps(kind)}")
     text = decoded(words[0], read_bytes(words[0]))
-    write_bytes(with_place(named(words[0]), lambda: pack_log(text)), words[1:])
+    write_bytes(with_place(named(words[0]), lambda: pack_log(text, int(kind))), words[1:])
 
 
 def count_command(words, as_csv=None):
@@ -1758,7 +1796,7 @@ def count_command(words, as_csv=None):
 COMMANDS = {"pack": (pack_command, 1, 2, "--kind", 1), "show": (show_command, 0, 1, "--input", 1), "draw": (draw_command, 1, 2, "--decisions", 1),
             "points": (points_command, 1, 2, None, 0), "map": (map_command, 3, 4, None, 0), "energy": (energy_command, 1, math.inf, None, 0),
             "merge": (merge_command, 2, 3, None, 0), "count": (count_command, 1, math.inf, "--csv", 0),
-            "csv": (csv_command, 0, 1, "--input", 1), "telemetry": (telemetry_command, 1, 2, None, 0)}
+            "csv": (csv_command, 0, 1, "--input", 1), "telemetry": (telemetry_command, 1, 2, "--kind", 1)}
 
 
 def command_of(words):

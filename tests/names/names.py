@@ -120,6 +120,13 @@ def frame_places(body, prefix=""):
     return found
 
 
+def widened(found):
+    """The places of kind 9, from those of kind 3: eleven instants have four bytes more."""
+    instants = [at for name, at in found.items() if name == "now_ms" or name.endswith("_t_ms") or name == "gcs_heartbeat_ms_value"]
+    same("instants of telemetry", len(instants), 11)
+    return {name: at + 4 * sum(before < at for before in instants) for name, at in found.items()}
+
+
 def header_places(tag):
     """The places that the header has for a frame, by name."""
     body = re.search(r"enum failsafe_%s_place \{(.*?)\n\};" % tag, text("include/failsafe.h"), re.S).group(1)
@@ -184,8 +191,9 @@ same("defaults, crates/config and tools/frames.py", defaults(), [(name, value) f
 config = fields_at(definition("frame_config", "configAt", "s keeps"))
 same("places of settings, crates/frame_config and the header", {name: at for name, _, at in config}, header_places("config"))
 same("types of settings, crates/config and the header", [(name, {"flag": "bool"}.get(kind, kind)) for name, kind in declared], list(setting_types().items()))
-same("places of telemetry, crates/frame_telemetry and the header",
-     frame_places(definition("frame_telemetry", "telemetryAt", "s")), header_places("telemetry"))
+telemetry = frame_places(definition("frame_telemetry", "telemetryAt", "s"))
+same("places of telemetry, crates/frame_telemetry and the header", telemetry, header_places("telemetry"))
+same("places of telemetry of kind 9, those of kind 3 and the header", widened(telemetry), header_places("wide_telemetry"))
 decision = frame_places(definition("frame_decision", "decisionAt", "s"))
 decision.update(frame_places(definition("frame_decision", "estimateAt", "s"), "energy_"))
 same("places of a Decision, crates/frame_decision and the header", decision, header_places("decision"))
@@ -199,7 +207,7 @@ same("the header's default fence and tools/frames.py", frames.fence_frame({}).he
 cited = re.findall(r"((?:`\w+`,? ?)+): (\w+/specs/\w+\.antt)", text("docs/RULES.md"))
 for names_, file in cited:
     for name in re.findall(r"`(\w+)`", names_):
-        if not re.search(r"^ *(?:\w+ )*pub (?:record )?%s\b" % name, text(f"crates/{file}"), re.M):
+        if not re.search(r"^ *(?:\w+ )*pub (?:record |data )?%s\b" % name, text(f"crates/{file}"), re.M):
             differs.append(f"docs/RULES.md: there is no {name} in crates/{file}")
 code = "\n".join(path.read_text(encoding="utf-8") for path in sorted(TOP.glob("crates/*/src/*.rt")))
 for name in re.findall(r"`(?:\w+::)?(\w+)`", "\n".join(line for line in text("docs/TOUR.md").splitlines() if re.match(r"\| \d+ \|", line))):

@@ -14,6 +14,7 @@ static const uint8_t config[] = FAILSAFE_DEFAULT_CONFIG, fence[] = FAILSAFE_DEFA
 typedef char config_is_whole[sizeof config == FAILSAFE_CONFIG_BYTES ? 1 : -1];
 typedef char fence_is_whole[sizeof fence == FAILSAFE_FENCE_BYTES(4) ? 1 : -1];
 typedef char last_slot[FAILSAFE_DECISION_SLOT(FAILSAFE_REASON_ENERGY_RTL_INFEASIBLE) + 3 == FAILSAFE_DECISION_POSITION_VALID ? 1 : -1];
+typedef char wide_ends[FAILSAFE_WIDE_TELEMETRY_EKF_OK_VALUE + 1 == FAILSAFE_WIDE_TELEMETRY_BYTES ? 1 : -1];
 typedef char last_corner[FAILSAFE_FENCE_EAST(3) + 4 == FAILSAFE_FENCE_BYTES(4) ? 1 : -1];
 int main(void) { return config[FAILSAFE_CONFIG_CELL_COUNT] == 4 && fence[FAILSAFE_FENCE_CORNERS] == 4 ? FAILSAFE_REFUSAL_NONE : 1; }
 END
@@ -42,6 +43,7 @@ seen() { # FROM TO WHAT
 seen 'FAILSAFE_REFUSAL_NEGATIVE_POWER = 24' 'FAILSAFE_REFUSAL_NEGATIVE_POWER = 23' refusals
 seen 'FAILSAFE_CONFIG_V_MAX = 242' 'FAILSAFE_CONFIG_V_MAX = 238' 'places of settings'
 seen 'FAILSAFE_TELEMETRY_GPS_HDOP_VALUE = 46' 'FAILSAFE_TELEMETRY_GPS_HDOP_VALUE = 45' 'places of telemetry'
+seen 'FAILSAFE_WIDE_TELEMETRY_EKF_OK_T_MS = 141' 'FAILSAFE_WIDE_TELEMETRY_EKF_OK_T_MS = 137' 'places of telemetry of kind 9'
 seen 'FAILSAFE_DECISION_FENCE_DIST_M = 89' 'FAILSAFE_DECISION_FENCE_DIST_M = 90' 'places of a Decision'
 seen '0x33, 0x33, 0x53' '0x33, 0x33, 0x54' "the header's default configuration"
 tests/names/names.py "$top"

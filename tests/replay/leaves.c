@@ -27,6 +27,13 @@ size_t leaf_default_fence_len(void);
 uint32_t leaf_default_config(uint8_t *to, size_t to_len);
 uint32_t leaf_energy(const uint8_t *config, size_t config_len, float n, float e, float d, bool known, float remaining,
                      uint8_t *to, size_t to_len);
+bool leaf_gate_eligible(bool held, uint32_t since, uint32_t now, bool armed_known, uint32_t armed_ms, bool armed,
+                        bool landed_known, uint32_t landed_ms, uint8_t landed, uint32_t fresh, uint32_t hold,
+                        uint8_t requested, bool fault);
+uint64_t leaf_gate_since(bool held, uint32_t since, uint32_t now, bool armed_known, uint32_t armed_ms, bool armed,
+                         bool landed_known, uint32_t landed_ms, uint8_t landed, uint32_t fresh, uint32_t hold,
+                         uint8_t requested, bool fault);
+uint64_t leaf_gate_reset(bool held, uint32_t since);
 float float32_sqrtf(float x);
 float float32_fabsf(float x);
 float float32_fmaxf(float x, float y);
@@ -214,6 +221,26 @@ static int energy(const uint32_t *args, struct words *answer)
     return 1;
 }
 
+/* The start of a hold, as present and value; 2^32 stands for none. */
+static void add_since(uint64_t since, struct words *answer)
+{
+    add(answer, since <= UINT32_MAX);
+    add(answer, since <= UINT32_MAX ? (uint32_t)since : 0);
+}
+
+/* The gate is lent to `evaluate`; its answer, and the gate that is left. */
+static void evaluated(const uint32_t *args, struct words *answer)
+{
+    bool held = args[0] != 0, armed_known = args[3] != 0, armed = args[5] != 0, landed_known = args[6] != 0;
+    uint8_t landed = (uint8_t)args[8], requested = (uint8_t)args[11];
+    bool fault = args[12] != 0;
+    add(answer, leaf_gate_eligible(held, args[1], args[2], armed_known, args[4], armed, landed_known, args[7], landed,
+                                   args[9], args[10], requested, fault));
+    add_since(leaf_gate_since(held, args[1], args[2], armed_known, args[4], armed, landed_known, args[7], landed,
+                              args[9], args[10], requested, fault),
+              answer);
+}
+
 int leaf_row(const struct words *row, struct words *answer)
 {
     const uint32_t *args = row->at + 2;
@@ -236,6 +263,8 @@ int leaf_row(const struct words *row, struct words *answer)
     case 0x21: return count == 0 && (default_fence(answer), 1);
     case 0x22: return count > 64 && is_polygon(args + 64, count - 64, 255) && (validated(args, answer), 1);
     case 0x30: return count == 15 && energy(args, answer);
+    case 0x31: return count == 13 && (evaluated(args, answer), 1);
+    case 0x32: return count == 2 && (add_since(leaf_gate_reset(args[0] != 0, args[1]), answer), 1);
     default: return 0;
     }
 }

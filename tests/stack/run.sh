@@ -12,7 +12,10 @@ staticlib
 gcc -Wl,-z,now -std=c11 -O2 -Wall -Wextra -Werror -pedantic -Iinclude -o "$build/stack" tests/stack/stack.c target/staticlib/libfailsafe.a || exit 1
 "$build/stack" <samples/flight.frames | tee "$build/taken"
 [ "${PIPESTATUS[0]}" -eq 0 ] || { echo "a call was refused" && exit 1; }
-while read -r entry taken _; do
+while IFS= read -r line; do
+    taken=${line% bytes}
+    taken=${taken##* }
+    entry=${line% "$taken" bytes}
     told=$(sed -nE "s/^ \*   $entry +([0-9]+) bytes\$/\1/p" include/failsafe.h)
     if [ -z "$told" ] || [ "$taken" -gt "$told" ]; then
         echo "include/failsafe.h says ${told:-nothing} of $entry, which takes $taken bytes"

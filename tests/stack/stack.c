@@ -1,6 +1,6 @@
 /* How much stack a call takes: each entry runs on a stack of its own that was painted before, and the paint that is left is counted. Reads
  * a configuration, a fence and telemetry frames from standard input; steps all of them, beside eight areas of 16 corners where areas are
- * taken. Prints a line for each entry, with the most of all calls. */
+ * taken, and each once more on the 64-bit clock. Prints a line for each entry, with the most of all calls. */
 #define _XOPEN_SOURCE 700
 #include <stdio.h>
 #include <string.h>
@@ -14,6 +14,7 @@
 static uint8_t stack[STACK], config[65537], fence[65537], telemetry[65537];
 static size_t config_len, fence_len, telemetry_len, areas_len;
 static uint8_t state[FAILSAFE_STATE_BYTES], output[FAILSAFE_SIDE_BYTES];
+static uint8_t wide_state[FAILSAFE_WIDE_STATE_BYTES], wide_telemetry[FAILSAFE_WIDE_TELEMETRY_BYTES];
 static uint8_t area[FAILSAFE_AREA_BYTES(16)], areas[FAILSAFE_AREAS_MOST], edited[FAILSAFE_AREAS_MOST];
 static uint32_t answer;
 
@@ -33,6 +34,12 @@ static void step_areas(void)
 {
     answer = failsafe_step_areas(config, config_len, fence, fence_len, state, sizeof state, telemetry, telemetry_len, output, sizeof output,
                                  areas, areas_len);
+}
+
+static void step_wide(void)
+{
+    answer = failsafe_step_areas(config, config_len, fence, fence_len, wide_state, sizeof wide_state, wide_telemetry, sizeof wide_telemetry,
+                                 output, sizeof output, areas, areas_len);
 }
 
 static void add_area(void) { answer = failsafe_add_area(areas, areas_len, area, sizeof area, edited, sizeof edited); }
@@ -81,6 +88,22 @@ static int frame(uint8_t *bytes, size_t *len)
     return fread(bytes + 2, 1, rest, stdin) == rest;
 }
 
+/* The telemetry as a kind 9: four bytes of 0 behind each instant. */
+static void widen_telemetry(void)
+{
+    static const uint8_t gaps[] = {0, 1, 25, 9, 5, 5, 5, 1, 2, 2, 2};
+    size_t from = 4, to = 4;
+    memset(wide_telemetry, 0, sizeof wide_telemetry);
+    wide_telemetry[0] = sizeof wide_telemetry - 2;
+    wide_telemetry[2] = FAILSAFE_KIND_WIDE_TELEMETRY;
+    for (size_t i = 0; i < sizeof gaps; i++) {
+        memcpy(wide_telemetry + to, telemetry + from, gaps[i] + 4u);
+        from += gaps[i] + 4u;
+        to += gaps[i] + 8u;
+    }
+    memcpy(wide_telemetry + to, telemetry + from, telemetry_len - from);
+}
+
 /* Puts eight areas in, the eighth last, and counts the stack of it. */
 static size_t fill(void)
 {
@@ -101,8 +124,9 @@ int main(void)
 {
     static void (*const steps[])(void) = {step, step_side, step_areas};
     static const char *const names[] = {"failsafe_step", "failsafe_step_side", "failsafe_step_areas"};
-    size_t most[3] = {0}, base = used(nothing), taken = 0;
-    if (!frame(config, &config_len) || !frame(fence, &fence_len) || failsafe_fresh(state, sizeof state) != 0)
+    size_t most[3] = {0}, wide = 0, base = used(nothing), taken = 0;
+    if (!frame(config, &config_len) || !frame(fence, &fence_len) || failsafe_fresh(state, sizeof state) != 0 ||
+        failsafe_fresh_wide(wide_state, sizeof wide_state) != 0)
         return 1;
     size_t add = fill(), fewer = used(remove_area);
     if (add == 0 || answer != 0)
@@ -117,10 +141,16 @@ int main(void)
                 return 1;
             most[i] = took > most[i] ? took : most[i];
         }
+        widen_telemetry();
+        size_t took = used(step_wide);
+        if (answer != 0)
+            return 1;
+        wide = took > wide ? took : wide;
         taken++;
     }
     for (int i = 0; i < 3; i++)
         printf("%s %zu bytes\n", names[i], most[i] - base);
+    printf("any of these on a state of kind 10 %zu bytes\n", wide - base);
     printf("failsafe_add_area %zu bytes\nfailsafe_remove_area %zu bytes\n", add - base, fewer - base);
     return taken == 0;
 }

@@ -1,6 +1,6 @@
 #!/usr/bin/env bash
 # tools/frames.py: packs the sample flight into the kept frames, shows the kept Decisions as the kept text, and says
-# what is wrong with bad input; a flight with a keep-out area too, and one at a threshold under kinds 1 and 11. It draws the kept pages, counts the landings of a kept day, writes Decisions as CSV and
+# what is wrong with bad input; a flight with a keep-out area too, one at a threshold under kinds 1 and 11, and instants of 64 bits. It draws the kept pages, counts the landings of a kept day, writes Decisions as CSV and
 # packs a log. Where the crate decide is there, the samples' Decisions are made anew by it.
 set -u
 top=$(cd "$(dirname "${BASH_SOURCE[0]}")/../.." && pwd)
@@ -63,6 +63,48 @@ warnings() { # TEXT
 { printf '\300\0\14\0' && head -c 183 /dev/zero && printf '\1\0\0\0\1\0\0'; } >"$build/raised.frames"
 tools/frames.py show "$build/raised.frames" | grep -q '^State of kind 12: .*, fresh, raised GpsLost BatteryWarn$' || fail "what is raised is shown otherwise"
 { printf '\300\0\14\0' && head -c 190 /dev/zero; } | tools/frames.py show | grep -q ', fresh, raised none$' || fail "a fresh state of kind 12 is shown otherwise"
+
+# Telemetry of kind 9 and a state of kind 10: the instants in eight bytes, all else as in kinds 3 and 5.
+wide_of() { # KIND NOW
+    echo '{"areas": [{"number": 4, "corners": [[100, 100], [100, 200], [200, 200]], "from_ms": '"$2"'}], "telemetry": [{"kind": '"$1"', "now_ms": '"$2"', "gcs_heartbeat_ms": 7,
+        "position": {"pos": [1, 2, -40]}, "gps": {"t_ms": 9, "fix": "Fix3D", "sats": 14}, "battery": {"percent": 80, "voltage_v": {"t_ms": 8, "value": 16}},
+        "armed": true, "landed": {"t_ms": 11, "value": "InAir"}, "ekf_ok": {"t_ms": 12, "value": false}}]}'
+}
+wide_of 3 1000 | tools/frames.py pack - | tail -c 106 >"$build/narrow.frames"
+wide_of 9 1000 | tools/frames.py pack - | tail -c 150 >"$build/wide.frames"
+wide_of 9 18446744073709551615 | tools/frames.py pack - >"$build/widest.frames"
+python3 - "$build" <<'END' || fail "kind 9 is not kind 3 with its instants in eight bytes"
+import sys
+narrow, wide, widest = (open(f"{sys.argv[1]}/{name}.frames", "rb").read() for name in ("narrow", "wide", "widest"))
+assert narrow[:4] == bytes([104, 0, 3, 0]) and wide[:4] == bytes([148, 0, 9, 0])
+for place in [4, 9, 38, 51, 60, 69, 78, 83, 89, 95, 101][::-1]:
+    narrow = narrow[:place + 4] + bytes(4) + narrow[place + 4:]
+assert narrow[4:] == wide[4:]
+assert widest[-150:-138] == bytes([148, 0, 9, 0]) + b"\xff" * 8
+END
+tools/frames.py show "$build/wide.frames" | sed 's/^Telemetry of kind 9/Telemetry/' | diff - <(tools/frames.py show "$build/narrow.frames") || fail "kind 9 is shown otherwise than kind 3"
+tools/frames.py show "$build/widest.frames" >"$build/widest.txt" || fail "the largest reading is not shown"
+grep -q '^Areas: 4: ' "$build/widest.txt" || fail "an area from a reading of 64 bits on is not held"
+grep -q '^Telemetry of kind 9: now 18446744073709551615, position (1, 2, -40) velocity (0, 0, 0), gps Fix3D sats 14 hdop - (18446744073709551606 ms old)' "$build/widest.txt" || fail "the largest reading is shown otherwise: $(tail -n 1 "$build/widest.txt")"
+echo '{"telemetry": [{"kind": 9, "now_ms": 4294967296, "gcs_heartbeat_ms": 4294967299}]}' | tools/frames.py pack - | tools/frames.py show | grep -qx 'Telemetry of kind 9: now 4294967296, heartbeat seen (3 ms ahead)' || fail "a stamp ahead is shown otherwise"
+{ cat "$build/side.frames" "$build/side.frames"; } >"$build/two.frames"
+echo '{"telemetry": [{"kind": 9, "now_ms": 8589934592}, {"kind": 9, "now_ms": 12884901888}]}' >"$build/two.json"
+tools/frames.py show "$build/two.frames" --input "$build/two.json" | grep -q '^12884901888 ms ' || fail "a Decision's time on the 64-bit clock is another"
+tools/frames.py draw "$build/two.json" --decisions "$build/two.frames" | grep -q '>A flight of 2 steps in ' || fail "a flight on the 64-bit clock is not drawn"
+printf 'now_ms,armed,armed.t_ms\n5000000000,1,4999999999\n' >"$build/wide.csv"
+tools/frames.py telemetry "$build/wide.csv" --kind 9 | tools/frames.py show | grep -qx 'Telemetry of kind 9: now 5000000000, armed yes (1 ms old)' || fail "a log of kind 9 is packed otherwise"
+tools/frames.py telemetry samples/log.csv --kind 9 | tools/frames.py show | sed 's/^Telemetry of kind 9/Telemetry/' | diff - <(tools/frames.py telemetry samples/log.csv | tools/frames.py show) || fail "the log as kind 9 is shown otherwise"
+# A fresh state but for gps_lost_set, the recovery's start, last_now and epoch_start.
+python3 - "$build/wide_state.frames" <<'END'
+import struct, sys
+state = bytearray(struct.pack("<HH", 304, 10) + bytes(302))
+for place, value in ((43, 2**32), (236, 2**40), (288, 2**63)):
+    state[place - 1] = 1
+    struct.pack_into("<Q", state, place, value)
+struct.pack_into("<Q", state, 296, 2**33)
+open(sys.argv[1], "wb").write(state)
+END
+tools/frames.py show "$build/wide_state.frames" | grep -qx 'State of kind 10: gps_lost_set since 4294967296, link stage 0, shown Nominal for None, recovery since 1099511627776, no stored position, refused samples 0, last_now since 9223372036854775808, epoch_start 8589934592, faults in a row 0, fresh' || fail "a state of kind 10 is shown otherwise: $(tools/frames.py show "$build/wide_state.frames")"
 
 # Document 01's input: the defaults and one all-absent telemetry.
 echo '{"telemetry": [{"now_ms": 0}]}' >"$build/absent.json"
@@ -281,7 +323,8 @@ bad points '1 2\n3\n' 'bad: line 2: two numbers are wanted'
 bad points '1 1e39\n' 'bad: line 1: a number: 1e+39 is beyond'
 bad csv '\2\0\15\0' 'bad: byte 0: Areas, where a Decision is due (refusal 2)'
 bad count '\2\0\15\0' 'bad: byte 0: Areas, where a Decision is due (refusal 2)'
-bad count '\2\0\11\0' 'bad: byte 0: there is no kind 9 (refusal 2)'
+bad count '\2\0\11\0' 'bad: byte 0: Telemetry of kind 9, where a Decision is due (refusal 2)'
+bad count '\2\0\16\0' 'bad: byte 0: there is no kind 14 (refusal 2)'
 bad count '\2\0\4\0' 'bad: byte 0: Decision: a body of 0 bytes is too short (refusal 3)'
 bad count '\4\0\377\0\1\0\1' 'bad: byte 6: a frame after the refusal, which ends a flight'
 bad count '\135\0\5\0' 'bad: byte 0: the last frame has 2 of 93 bytes (refusal 1)'
@@ -319,6 +362,13 @@ END
 bad pack '{' 'line 1, column 2'
 bad pack '[]' 'flight: an object is wanted'
 bad pack '{"telemetry": [{}]}' 'telemetry[0].now_ms: a whole number from 0 to 4294967295 is wanted'
+bad pack '{"telemetry": [{"now_ms": 4294967296}]}' 'telemetry[0].now_ms: a whole number from 0 to 4294967295 is wanted, not 4294967296'
+bad pack '{"telemetry": [{"kind": 9, "now_ms": 18446744073709551616}]}' 'telemetry[0].now_ms: a whole number from 0 to 18446744073709551615 is wanted'
+bad pack '{"telemetry": [{"kind": 9, "now_ms": 1, "armed": {"t_ms": -1, "value": true}}]}' 'telemetry[0].armed.t_ms: a whole number from 0 to 18446744073709551615 is wanted, not -1'
+bad pack '{"telemetry": [{"kind": 5, "now_ms": 1}]}' 'telemetry[0].kind: 3 or 9 is wanted, not 5'
+bad pack '{"telemetry": [{"kind": true, "now_ms": 1}]}' 'telemetry[0].kind: 3 or 9 is wanted, not true'
+bad pack '{"areas": [{"number": 1, "corners": [], "from_ms": 4294967296}], "telemetry": [{"now_ms": 1}]}' 'areas[0].from_ms: a whole number from 0 to 4294967295 is wanted'
+bad telemetry 'now_ms\n4294967296\n' 'line 2: column now_ms: a whole number from 0 to 4294967295 is wanted'
 bad pack '{"telemetry": [{"now_ms": 1, "gps": {"fix": "Fix4D"}}]}' 'telemetry[0].gps.fix: "Fix4D" is none of None, Fix2D, Fix3D'
 bad pack '{"telemetry": [{"now_ms": 1, "armed": 1}]}' 'telemetry[0].armed: true or false is wanted'
 bad pack '{"telemetry": [{"now_ms": 1, "position": {"pos": [1, 2]}}]}' 'telemetry[0].position.pos: three numbers'
@@ -346,7 +396,13 @@ bad draw '\4\0\377\0\1\0' 'there is no fence'
 bad show '\1' 'byte 0: the last frame is cut off (refusal 1)'
 bad show '\6\0\4\0' 'byte 0: the last frame has 2 of 6 bytes (refusal 1)'
 bad show '\1\0\0' 'byte 0: a length of 1, which is under 2 (refusal 3)'
-bad show '\2\0\11\0' 'byte 0: there is no kind 9 (refusal 2)'
+bad show '\2\0\16\0' 'byte 0: there is no kind 14 (refusal 2)'
+bad show '\2\0\11\0' 'byte 0: Telemetry of kind 9: a body of 0 bytes is too short (refusal 3)'
+bad show "\150\0\11\0$(printf '\\0%.0s' $(seq 102))" 'byte 0: Telemetry of kind 9: a body of 102 bytes is too short (refusal 3)'
+bad show "\224\0\3\0$(printf '\\0%.0s' $(seq 146))" 'byte 0: Telemetry: 44 bytes are left over (refusal 3)'
+bad show "\224\0\11\0$(printf '\\0%.0s' $(seq 16))\1$(printf '\\0%.0s' $(seq 129))" 'byte 0: Telemetry of kind 9: the absent value at byte 9 of the body is not zero (refusal 4)'
+bad show "\60\1\5\0$(printf '\\0%.0s' $(seq 302))" 'byte 0: State: 120 bytes are left over (refusal 3)'
+bad show "\60\1\12\0$(printf '\\0%.0s' $(seq 301))\2" 'byte 0: State of kind 10: the flag at byte 301 of the body is 2 (refusal 4)'
 bad show "\300\0\14\0$(printf '\\0%.0s' $(seq 189))\2" 'byte 0: State of kind 12: the flag at byte 189 of the body is 2 (refusal 4)'
 bad show "\270\0\14\0$(printf '\\0%.0s' $(seq 182))" 'byte 0: State of kind 12: a body of 182 bytes is too short (refusal 3)'
 bad show "\300\0\5\0$(printf '\\0%.0s' $(seq 190))" 'byte 0: State: 8 bytes are left over (refusal 3)'
@@ -360,13 +416,17 @@ tools/frames.py show "$build/none" >/dev/null 2>"$build/err"
 [ $? -eq 1 ] || fail "a file that is not there is no error"
 tools/frames.py pack samples/flight.json "$build/none/flight.frames" 2>"$build/err"
 [ $? -eq 1 ] && grep -q "none/flight.frames: No such file" "$build/err" || fail "a file that can't be written: it says $(cat "$build/err")"
-for words in "" none count "count --csv" "csv --input" "show --input" "draw a --decisions" "draw --decisions a" "show a --input b --input c" "telemetry" "pack a b c" "pack a --kind" "count --cvs a"; do
+for words in "" none count "count --csv" "csv --input" "show --input" "draw a --decisions" "draw --decisions a" "show a --input b --input c" "telemetry" "telemetry a --kind" "pack a b c" "pack a --kind" "count --cvs a"; do
     tools/frames.py $words >"$build/out" 2>"$build/err" </dev/null
     [ $? -eq 2 ] && [ ! -s "$build/out" ] && head -n 1 "$build/err" | grep -qxF "frames.py: bad usage: frames.py${words:+ $words}" || fail "bad usage is no error: $words"
 done
 
 tools/frames.py pack samples/flicker.json --kind 2 >"$build/out" 2>"$build/err"
 [ $? -eq 1 ] && [ ! -s "$build/out" ] && grep -q -- '--kind: 1 or 11 is wanted, not "2"' "$build/err" || fail "kind 2 of a configuration: it says $(cat "$build/err")"
+tools/frames.py telemetry samples/log.csv --kind 5 >"$build/out" 2>"$build/err"
+[ $? -eq 1 ] && [ ! -s "$build/out" ] && grep -q -- '--kind: 3 or 9 is wanted, not "5"' "$build/err" || fail "kind 5 of a log: it says $(cat "$build/err")"
+tools/frames.py merge "$build/two.json" "$build/two.json" >"$build/out" 2>"$build/err"
+[ $? -eq 1 ] && [ ! -s "$build/out" ] && grep -q 'byte 291: Telemetry of kind 9, where kind 3 is due (refusal 2)' "$build/err" || fail "two radios of kind 9: it says $(cat "$build/err")"
 
 # The flicker under both kinds.
 flicker() { # DECIDE

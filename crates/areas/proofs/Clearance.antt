@@ -44,13 +44,13 @@ module _ {P : Type 0} (dist : Area P → Float) where
   -- the first area is less than what there was
   taken : (v : FenceDistance) (a : Area P) (l : List (Area P)) (c : FenceDistance) → lt (at a) (v .m) ≡ true → Whose (from a) l c → Areas dist v (a ∷ l) c
   taken v a l c h (inl f) =
-      record { left = []; area = a; right = l; whole = refl; is = f .is; below-fence = h; first = tt; none-less = f .none-less }
+      record { left = []; area = a; right = l; parts = refl; is = f .is; below-fence = h; first = tt; none-less = f .none-less }
   taken v a l c h (inr f) =
       record {
         left = a ∷ f .left;
         area = f .area;
         right = f .right;
-        whole = ap (λ (x : List (Area P)). a ∷ x) (f .whole);
+        parts = ap (λ (x : List (Area P)). a ∷ x) (f .parts);
         is = f .is;
         below-fence = lt-trans (at (f .area)) (at a) (v .m) (f .below-fence) h;
         first = (not-at-most (at a) (at (f .area)) (at a) (f .below-fence) (lt-irrefl (at a)), f .first);
@@ -65,7 +65,7 @@ module _ {P : Type 0} (dist : Area P → Float) where
         left = a ∷ f .left;
         area = f .area;
         right = f .right;
-        whole = ap (λ (x : List (Area P)). a ∷ x) (f .whole);
+        parts = ap (λ (x : List (Area P)). a ∷ x) (f .parts);
         is = f .is;
         below-fence = f .below-fence;
         first = (not-at-most (at a) (at (f .area)) (v .m) (f .below-fence) h, f .first);
@@ -97,7 +97,7 @@ module _ {P : Type 0} (dist : Area P → Float) where
       by (inr f) =
           let u : Number (at (f .area)) = lt-numbers (at (f .area)) (v .m) (f .below-fence) .0 in
           let n : All (λ (b : Area P). lt (at b) (at (f .area)) ≡ false) l =
-          rw (f .whole) (all-append _ (f .left) (f .area ∷ f .right) (all-map _ _ (λ b h. not-less (at b) (at (f .area)) h) (f .left) (f .first)) (lt-irrefl (at (f .area)), f .none-less)) in
+          rw (f .parts) (all-append _ (f .left) (f .area ∷ f .right) (all-map _ _ (λ b h. not-less (at b) (at (f .area)) h) (f .left) (f .first)) (lt-irrefl (at (f .area)), f .none-less)) in
           subst AtMost (sym (f .is)) (le-of-lt (at (f .area)) (v .m) (f .below-fence), under (at (f .area)) l u q n)
 
   -- ---- the lowest number's
@@ -120,9 +120,9 @@ module _ {P : Type 0} (dist : Area P → Float) where
       by (inl f) = absurd (true≢false (sym h ∙ ap (λ (x : FenceDistance). lt (x .m) (v .m)) (f .is) ∙ lt-irrefl (v .m)))
       by (inr f) = (
         f .area,
-        rw (f .whole) (among-middle (f .left) (f .area) (f .right)),
+        rw (f .parts) (among-middle (f .left) (f .area) (f .right)),
         f .is,
-        rw (f .whole) (lowest-of (f .left) (f .area) (f .right) (rw (f .whole) at s) (f .first)),
+        rw (f .parts) (lowest-of (f .left) (f .area) (f .right) (rw (f .parts) at s) (f .first)),
       )
 
   -- ---- the side byte
@@ -144,7 +144,7 @@ module _ {P : Type 0} (dist : Area P → Float) where
       by : Whose v l (clearance dist v l) → clearance dist v l .side ≡ cond (noneLess dist (v .m) l) (v .side) 254
       by (inl f) = rw (f .is, none-true (v .m) l (f .none-less))
       by (inr f) =
-          let n : noneLess dist (v .m) l ≡ false = rw (f .whole) (none-false (v .m) (f .left) (f .area) (f .right) (f .below-fence)) in
+          let n : noneLess dist (v .m) l ≡ false = rw (f .parts) (none-false (v .m) (f .left) (f .area) (f .right) (f .below-fence)) in
           rw (f .is, n)
 
   -- ---- NaNs

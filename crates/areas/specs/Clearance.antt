@@ -34,7 +34,7 @@ module _ {P : Type 0} (dist : Area P → Float) where
     pub left : List (Area P)
     pub area : Area P
     pub right : List (Area P)
-    pub whole : l ≡ left ++ area ∷ right
+    pub parts : l ≡ left ++ area ∷ right
     pub is : c ≡ record { m = value area; side = 254 }
     pub below-fence : lt (value area) (fence .m) ≡ true
     pub first : All (λ b. le (value b) (value area) ≡ false) left

@@ -81,16 +81,12 @@ defaultConfig =
       «keeps_raised» = false;
     }
 
--- a metre number below zero
-abbrev minus : ℕ → Float
-minus n = neg (decimal n 1)
-
 abbrev corner : Float → Float → Point2
 corner n e = record { n = n; e = e }
 
 -- "`default_fence` (4 corners in the order the Rust lists them, altitudes 5 and 120)"
 abbrev pub defaultCorners : List Point2
-defaultCorners = corner (minus 500) (minus 500) ∷ corner (minus 500) (decimal 500 1) ∷ corner (decimal 500 1) (decimal 500 1) ∷ corner (decimal 500 1) (minus 500) ∷ []
+defaultCorners = corner (neg (decimal 500 1)) (neg (decimal 500 1)) ∷ corner (neg (decimal 500 1)) (decimal 500 1) ∷ corner (decimal 500 1) (decimal 500 1) ∷ corner (decimal 500 1) (neg (decimal 500 1)) ∷ []
 
 unfoldable pub defaultFence : GeofenceResult
 defaultFence =

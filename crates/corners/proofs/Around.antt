@@ -4,14 +4,14 @@ use Prim.Native.Nat.{ℕ, _+_, _%_, _≤_, _<_}
 use native.Mathlib.Nat.{mod-eq-of-lt, mod-lt}
 use native.Mathlib.Omega.{arith}
 use mathlib.Core.Bool.{Bool, true, false, _&&_, _||_, cond}
-use mathlib.Core.List.{List, [], _∷_}
+use mathlib.Core.List.{List, [], _∷_, foldl}
 use lib.Dec.{ltb}
 use lib.ListN.{length, getD, take, drop}
 use lib.Ieee.{lt}
 use borrow.Author.Tests.{ltb-true, ltb-false, le-ltb}
 use Rattle.float32.specs.Libm.{fabs}
 use Rattle.types.specs.declared.Point2.{Point2}
-use Rattle.corners.specs.Ring.{fold, any, sides, turns, tails}
+use Rattle.corners.specs.Ring.{anyMeets, sides, turns, tails}
 use Rattle.corners.specs.Acceptance.{resultAnd, faultIf, firstFault, cornerFault, recurs, flatTurn, mixedTurns, polygonArea, leastArea, polygonTests, polygonFault}
 use Rattle.corners.specs.OnceRound.{signChanges}
 use Rattle.corners.specs.Round.{place, failed, roundOf}
@@ -73,7 +73,7 @@ failed-and : (v w : FenceResult) → failed (resultAnd v w) ≡ (failed v || fai
 failed-and FenceResult.Ok w = refl
 failed-and (FenceResult.Err e) w = refl
 
-failed-round : (v : FenceResult) (l : List Point2) → fold (λ b p. b || failed (cornerFault p)) (failed v) l ≡ failed (fold (λ w p. resultAnd w (cornerFault p)) v l)
+failed-round : (v : FenceResult) (l : List Point2) → foldl (λ b p. b || failed (cornerFault p)) (failed v) l ≡ failed (foldl (λ w p. resultAnd w (cornerFault p)) v l)
 failed-round v [] = refl
 failed-round v (p ∷ l) = rw (← failed-and v (cornerFault p)) (failed-round (resultAnd v (cornerFault p)) l)
 
@@ -88,7 +88,7 @@ first-decides FenceResult.Ok w x y z u h = let z : _≡_ {A = ℕ} 0 1 = cc in a
 -- the first error of 3 to 16 corners, test by test
 module _ (once : Bool) (n : ℕ) (l : List Point2) (h : 3 ≤ n) (k : n ≤ 16) where
   in-range : polygonFault once n l
-      ≡ resultAnd (resultAnd (resultAnd (resultAnd (resultAnd (firstFault cornerFault l) (faultIf (any recurs (tails l)) FenceError.DuplicateVertex)) (faultIf (any flatTurn (turns l)) FenceError.CollinearEdge)) (faultIf (mixedTurns l) FenceError.NotConvex)) (faultIf (once && ltb 2 (signChanges l)) FenceError.NotOnceRound)) (faultIf (lt (fabs (polygonArea l)) leastArea) FenceError.AreaTooSmall)
+      ≡ resultAnd (resultAnd (resultAnd (resultAnd (resultAnd (firstFault cornerFault l) (faultIf (anyMeets recurs (tails l)) FenceError.DuplicateVertex)) (faultIf (anyMeets flatTurn (turns l)) FenceError.CollinearEdge)) (faultIf (mixedTurns l) FenceError.NotConvex)) (faultIf (once && ltb 2 (signChanges l)) FenceError.NotOnceRound)) (faultIf (lt (fabs (polygonArea l)) leastArea) FenceError.AreaTooSmall)
   unfolding polygonTests
   in-range = rw (le-ltb n 3 h, le-ltb 16 n k)
 
@@ -103,10 +103,10 @@ module _ (once : Bool) (n : ℕ) (l : List Point2) (h : 3 ≤ n) (k : n ≤ 16) 
     unfolding roundOf
     corners-ok = not-failed _ (sym (failed-round FenceResult.Ok l) ∙ e)
 
-    pub fault-duplicate : any recurs (tails l) ≡ true → polygonFault once n l ≡ FenceResult.Err FenceError.DuplicateVertex
+    pub fault-duplicate : anyMeets recurs (tails l) ≡ true → polygonFault once n l ≡ FenceResult.Err FenceError.DuplicateVertex
     fault-duplicate r = rw (in-range, corners-ok, r)
 
-    module _ (r : any recurs (tails l) ≡ false) where
+    module _ (r : anyMeets recurs (tails l) ≡ false) where
       pub fault-flat : roundOf l .flat ≡ true → polygonFault once n l ≡ FenceResult.Err FenceError.CollinearEdge
       unfolding roundOf
       fault-flat f = rw (in-range, corners-ok, r, f)

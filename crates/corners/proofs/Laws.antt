@@ -6,22 +6,28 @@ use native.Mathlib.Nat.{mod-eq-of-lt, mod-self, mod-lt, not-suc-le-zero, le-of-s
 use native.Mathlib.Numerals.{add-one}
 use native.Mathlib.Omega.{arith}
 use mathlib.Core.Logic.{_⊎_, inl, inr}
-use mathlib.Core.List.{List, [], _∷_, _++_}
+use mathlib.Core.List.{List, [], _∷_, _++_, zip}
 use lib.ListN.{length, getD, take, drop, length-append, List·getD-append, drop-of-length-le}
 use lib.Seq.{drop-cons, getD-at, getD-take, length-take-le}
-use Rattle.corners.specs.Ring.{pairs, turned, sides, turns, tails}
+use Rattle.corners.specs.Ring.{beside, turned, sides, turns, tails}
 
 module _ {A B : Type 0} where
-  pub length-pairs : (l : List A) (m : List B) → length l ≤ length m → length (pairs l m) ≡ length l
-  length-pairs [] m e = refl
-  length-pairs (a ∷ l) [] e = absurd (not-suc-le-zero e)
-  length-pairs (a ∷ l) (b ∷ m) e = ap suc (length-pairs l m (le-of-suc-le-suc e))
+  pub beside-is-zip : (l : List A) (m : List B) → beside l m ≡ zip l m
+  unfolding zip
+  beside-is-zip [] m = refl
+  beside-is-zip (a ∷ l) [] = refl
+  beside-is-zip (a ∷ l) (b ∷ m) = ap (λ (k : List (A × B)). (a, b) ∷ k) (beside-is-zip l m)
 
-  pub getD-pairs : (l : List A) (m : List B) (i : ℕ) (a : A) (b : B) → i < length l → length l ≤ length m → getD (pairs l m) i (a, b) ≡ (getD l i a, getD m i b)
-  getD-pairs [] m i a b h e = absurd (not-suc-le-zero h)
-  getD-pairs (x ∷ l) [] i a b h e = absurd (not-suc-le-zero e)
-  getD-pairs (x ∷ l) (y ∷ m) zero a b h e = refl
-  getD-pairs (x ∷ l) (y ∷ m) (suc i) a b h e = getD-pairs l m i a b (le-of-suc-le-suc h) (le-of-suc-le-suc e)
+  pub length-beside : (l : List A) (m : List B) → length l ≤ length m → length (beside l m) ≡ length l
+  length-beside [] m e = refl
+  length-beside (a ∷ l) [] e = absurd (not-suc-le-zero e)
+  length-beside (a ∷ l) (b ∷ m) e = ap suc (length-beside l m (le-of-suc-le-suc e))
+
+  pub getD-beside : (l : List A) (m : List B) (i : ℕ) (a : A) (b : B) → i < length l → length l ≤ length m → getD (beside l m) i (a, b) ≡ (getD l i a, getD m i b)
+  getD-beside [] m i a b h e = absurd (not-suc-le-zero h)
+  getD-beside (x ∷ l) [] i a b h e = absurd (not-suc-le-zero e)
+  getD-beside (x ∷ l) (y ∷ m) zero a b h e = refl
+  getD-beside (x ∷ l) (y ∷ m) (suc i) a b h e = getD-beside l m i a b (le-of-suc-le-suc h) (le-of-suc-le-suc e)
 
 -- the place after i, the first after the last
 pub next-less : (i n : ℕ) → i + 1 < n → i + 1 ≡ (i + 1) % n
@@ -58,17 +64,17 @@ module _ {A : Type 0} where
   getD-turned (a ∷ l) i d h = last-place a l i d (eq-or-lt-of-le (le-of-suc-le-suc h))
 
   pub length-sides : (l : List A) → length (sides l) ≡ length l
-  length-sides l = length-pairs l (turned l) (omega (arith, length-turned l))
+  length-sides l = length-beside l (turned l) (omega (arith, length-turned l))
 
   pub length-turns : (l : List A) → length (turns l) ≡ length l
-  length-turns l = length-pairs l (sides (turned l)) (omega (arith, length-sides (turned l), length-turned l))
+  length-turns l = length-beside l (sides (turned l)) (omega (arith, length-sides (turned l), length-turned l))
 
   pub length-tails : (l : List A) → length (tails l) ≡ length l
   length-tails [] = refl
   length-tails (a ∷ l) = ap suc (length-tails l)
 
   pub getD-sides : (l : List A) (i : ℕ) (d : A) → i < length l → getD (sides l) i (d, d) ≡ (getD l i d, getD l ((i + 1) % length l) d)
-  getD-sides l i d h = rw (getD-pairs l (turned l) i d d h (omega (arith, length-turned l)), getD-turned l i d h)
+  getD-sides l i d h = rw (getD-beside l (turned l) i d d h (omega (arith, length-turned l)), getD-turned l i d h)
 
   pub getD-tails : (l : List A) (i : ℕ) (d : A) (e : List A) → i < length l → getD (tails l) i (d, e) ≡ (getD l i d, drop (i + 1) l)
   getD-tails [] i d e h = absurd (not-suc-le-zero h)
@@ -81,7 +87,7 @@ module _ {A : Type 0} where
       let e : length (turned l) ≡ length l = length-turned l in
       let f : length (sides (turned l)) ≡ length l = length-sides (turned l) ∙ e in
       let m : (i + 1) % length l < length l = mod-lt (i + 1) (omega arith) in
-      rw (getD-pairs l (sides (turned l)) i d (d, d) h (omega arith), getD-sides (turned l) i d (omega arith), e, getD-turned l i d h, getD-turned l ((i + 1) % length l) d m)
+      rw (getD-beside l (sides (turned l)) i d (d, d) h (omega arith), getD-sides (turned l) i d (omega arith), e, getD-turned l i d h, getD-turned l ((i + 1) % length l) d m)
 
 module _ {A : Type 0} (v : List A) (n : ℕ) (room : n ≤ length v) where
   pub corner-at : (i : ℕ) (d : A) → i < n → drop i (take n v) ≡ getD v i d ∷ drop (i + 1) (take n v)
@@ -103,12 +109,12 @@ module _ {A : Type 0} (v : List A) (n : ℕ) (room : n ≤ length v) where
 
   -- a side beside an element of another list
   pub side-beside : {B : Type 0} (m : List B) (i : ℕ) (d : A) (b : B) → n ≤ length m → i < n
-      → drop i (pairs (sides (take n v)) m) ≡ ((getD v i d, getD v ((i + 1) % n) d), getD m i b) ∷ drop (i + 1) (pairs (sides (take n v)) m)
+      → drop i (beside (sides (take n v)) m) ≡ ((getD v i d, getD v ((i + 1) % n) d), getD m i b) ∷ drop (i + 1) (beside (sides (take n v)) m)
   side-beside m i d b k h =
       let s = sides (take n v) in
       let e : length s ≡ n = side-count in
       let f : length s ≤ length m = omega arith in
-      rw (left-at (pairs s m) i ((d, d), b) (omega (arith, length-pairs s m f)), getD-pairs s m i (d, d) b (omega arith) f, side-is i d h)
+      rw (left-at (beside s m) i ((d, d), b) (omega (arith, length-beside s m f)), getD-beside s m i (d, d) b (omega arith) f, side-is i d h)
 
   pub turn-at : (i : ℕ) (d : A) → i < n
       → drop i (turns (take n v)) ≡ (getD v i d, (getD v ((i + 1) % n) d, getD v (((i + 1) % n + 1) % n) d)) ∷ drop (i + 1) (turns (take n v))
@@ -130,8 +136,8 @@ module _ {A : Type 0} (v : List A) (n : ℕ) (room : n ≤ length v) where
   pub side-end : (i : ℕ) → n ≤ i → drop i (sides (take n v)) ≡ []
   side-end i h = drop-of-length-le (sides (take n v)) {i = i} (omega (arith, side-count))
 
-  pub side-beside-end : {B : Type 0} (m : List B) (i : ℕ) → n ≤ length m → n ≤ i → drop i (pairs (sides (take n v)) m) ≡ []
-  side-beside-end m i k h = drop-of-length-le (pairs (sides (take n v)) m) {i = i} (omega (arith, length-pairs (sides (take n v)) m (omega (arith, side-count)), side-count))
+  pub side-beside-end : {B : Type 0} (m : List B) (i : ℕ) → n ≤ length m → n ≤ i → drop i (beside (sides (take n v)) m) ≡ []
+  side-beside-end m i k h = drop-of-length-le (beside (sides (take n v)) m) {i = i} (omega (arith, length-beside (sides (take n v)) m (omega (arith, side-count)), side-count))
 
   pub turn-end : (i : ℕ) → n ≤ i → drop i (turns (take n v)) ≡ []
   turn-end i h = drop-of-length-le (turns (take n v)) {i = i} (omega (arith, length-turns (take n v), length-take-le n v room))

@@ -3,31 +3,31 @@ use mathlib.Core.Path.{_≡_, refl, sym, ap, _∙_}
 use Prim.Native.Nat.{ℕ, zero, suc, _+_, _≤_}
 use native.Mathlib.Omega.{arith}
 use mathlib.Core.Bool.{Bool, true, false, cond}
-use mathlib.Core.List.{List, [], _∷_, _++_, map}
+use mathlib.Core.List.{List, [], _∷_, _++_, map, foldl}
 use lib.Dec.{eqb}
-use Rattle.corners.specs.Ring.{fold, pairs, sides}
+use Rattle.corners.specs.Ring.{beside, sides}
 use Rattle.corners.specs.OnceRound.{northSign, nonzero, differ, tally, signChanges, join, joinIf, closed, unsigned}
 use Rattle.types.specs.declared.Point2.{Point2}
 use Rattle.corners.specs.declared.Signs.{Signs}
 
-fold-map : {A B C : Type 0} (h : C → B → C) (f : A → B) (c : C) (l : List A) → fold (λ x a. h x (f a)) c l ≡ fold h c (map f l)
+fold-map : {A B C : Type 0} (h : C → B → C) (f : A → B) (c : C) (l : List A) → foldl (λ x a. h x (f a)) c l ≡ foldl h c (map f l)
 fold-map h f c [] = refl
 fold-map h f c (a ∷ l) = fold-map h f (h c (f a)) l
 
-skipped : (s : Signs) (l : List ℕ) → fold joinIf s l ≡ fold join s (nonzero l)
+skipped : (s : Signs) (l : List ℕ) → foldl joinIf s l ≡ foldl join s (nonzero l)
 skipped s [] = refl
 skipped s (zero ∷ l) = skipped s l
 skipped s (suc k ∷ l) = skipped (join s (suc k)) l
 
-run : (a x c : ℕ) (l : List ℕ) → closed (fold join (record { started = true; first = a; last = x; count = c }) l) ≡ tally c (pairs (x ∷ l) (l ++ a ∷ []))
+run : (a x c : ℕ) (l : List ℕ) → closed (foldl join (record { started = true; first = a; last = x; count = c }) l) ≡ tally c (beside (x ∷ l) (l ++ a ∷ []))
 run a x c [] = refl
 run a x c (y ∷ l) = run a y (c + differ x y) l
 
-round : (l : List ℕ) → closed (fold join unsigned l) ≡ tally 0 (sides l)
+round : (l : List ℕ) → closed (foldl join unsigned l) ≡ tally 0 (sides l)
 round [] = refl
 round (g ∷ l) = run g g 0 l
 
-pub counted : (l : List Point2) → closed (fold (λ s t. joinIf s (northSign t)) unsigned (sides l)) ≡ signChanges l
+pub counted : (l : List Point2) → closed (foldl (λ s t. joinIf s (northSign t)) unsigned (sides l)) ≡ signChanges l
 unfolding signChanges
 counted l = ap closed (fold-map joinIf northSign unsigned (sides l) ∙ skipped unsigned (map northSign (sides l))) ∙ round (nonzero (map northSign (sides l)))
 

@@ -1,13 +1,13 @@
 -- Which corners are accepted. The quotations without a name are of document 01's paragraph on geometry. Assumes nothing.
 use Prim.Native.Nat.{ℕ}
 use mathlib.Core.Bool.{Bool, not, _&&_, _||_, cond}
-use mathlib.Core.List.{List, [], _∷_}
+use mathlib.Core.List.{List, [], _∷_, foldl}
 use lib.Dec.{ltb}
 use lib.Ieee.{Float, binary32, add, sub, mul, lt, eq, ofBits}
 use Rattle.float32.specs.Binary32.{zeroF}
 use Rattle.float32.specs.Libm.{isFinite, fabs}
 use Rattle.types.specs.declared.Point2.{Point2}
-use Rattle.corners.specs.Ring.{fold, any, sides, turns, tails}
+use Rattle.corners.specs.Ring.{anyMeets, sides, turns, tails}
 use Rattle.corners.specs.declared.FenceError.{FenceError}
 use Rattle.corners.specs.declared.FenceResult.{FenceResult}
 use Rattle.corners.specs.OnceRound.{signChanges}
@@ -62,7 +62,7 @@ faultIf b e = cond b (FenceResult.Err e) FenceResult.Ok
 
 -- the first error that a test finds in a list
 abbrev pub firstFault : {A : Type 0} → (A → FenceResult) → List A → FenceResult
-firstFault f = fold (λ v a. resultAnd v (f a)) FenceResult.Ok
+firstFault f = foldl (λ v a. resultAnd v (f a)) FenceResult.Ok
 
 -- "per corner finite, then within ±10,000"
 unfoldable pub cornerFault : Point2 → FenceResult
@@ -76,7 +76,7 @@ samePoint p q = eq (p .n) (q .n) && eq (p .e) (q .e)
 
 -- "duplicates": a corner is again among those after it
 abbrev pub recurs : Point2 × List Point2 → Bool
-recurs t = any (samePoint (t .0)) (t .1)
+recurs t = anyMeets (samePoint (t .0)) (t .1)
 
 -- "any turn under 0.0001 in size": the size goes by the turn's two sides, as in the Rust's normalize_ccw
 unfoldable pub flatTurn : Point2 × (Point2 × Point2) → Bool
@@ -102,13 +102,13 @@ cross2 t =
 
 -- "mixed turn signs"; "Equal turn signs count as convex, without a look at crossing sides."
 unfoldable pub mixedTurns : List Point2 → Bool
-mixedTurns l = any (λ t. lt zeroF (cross2 t)) (turns l) && any (λ t. lt (cross2 t) zeroF) (turns l)
+mixedTurns l = anyMeets (λ t. lt zeroF (cross2 t)) (turns l) && anyMeets (λ t. lt (cross2 t) zeroF) (turns l)
 
 unfoldable pub areaTerm : Point2 × Point2 → Float
 areaTerm s = sub binary32 (mul binary32 (s .0 .n) (s .1 .e)) (mul binary32 (s .1 .n) (s .0 .e))
 
 unfoldable pub polygonArea : List Point2 → Float
-polygonArea l = mul binary32 (fold (λ x s. add binary32 x (areaTerm s)) zeroF (sides l)) half
+polygonArea l = mul binary32 (foldl (λ x s. add binary32 x (areaTerm s)) zeroF (sides l)) half
 
 -- "3 to 16 corners. Order: counts; per corner finite, then within ±10,000; duplicates; any turn under 0.0001 in size; mixed turn signs; area under 100."
 -- document 02, L5: "Turned away: 33 where the sign changes more than twice, after 16 and before 17", where that rule is asked: once.
@@ -118,8 +118,8 @@ polygonTests once n l =
     faultIf (ltb n 3) FenceError.TooFewVertices
     ∷ faultIf (ltb 16 n) FenceError.TooManyVertices
     ∷ firstFault cornerFault l
-    ∷ faultIf (any recurs (tails l)) FenceError.DuplicateVertex
-    ∷ faultIf (any flatTurn (turns l)) FenceError.CollinearEdge
+    ∷ faultIf (anyMeets recurs (tails l)) FenceError.DuplicateVertex
+    ∷ faultIf (anyMeets flatTurn (turns l)) FenceError.CollinearEdge
     ∷ faultIf (mixedTurns l) FenceError.NotConvex
     ∷ faultIf (once && ltb 2 (signChanges l)) FenceError.NotOnceRound
     ∷ faultIf (lt (fabs (polygonArea l)) leastArea) FenceError.AreaTooSmall

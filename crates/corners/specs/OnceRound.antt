@@ -2,11 +2,11 @@
 -- first." Assumes nothing.
 use Prim.Native.Nat.{ℕ, zero, suc, _+_}
 use mathlib.Core.Bool.{true, false, cond}
-use mathlib.Core.List.{List, [], _∷_, map}
+use mathlib.Core.List.{List, [], _∷_, map, foldl}
 use lib.Dec.{eqb}
 use lib.Ieee.{lt}
 use Rattle.types.specs.declared.Point2.{Point2}
-use Rattle.corners.specs.Ring.{fold, sides}
+use Rattle.corners.specs.Ring.{sides}
 use Rattle.corners.specs.declared.Signs.{Signs}
 
 -- "the sign of the north step" of a side: 1 northward, 2 southward, 0 of a zero step
@@ -25,7 +25,7 @@ differ a b = cond (eqb a b) 0 1
 
 -- how often two neighbours differ
 abbrev pub tally : ℕ → List (ℕ × ℕ) → ℕ
-tally = fold (λ k t. k + differ (t .0) (t .1))
+tally = foldl (λ k t. k + differ (t .0) (t .1))
 
 -- how often the sign changes: between each sign and the next, "the last side is followed by the first"
 unfoldable pub signChanges : List Point2 → ℕ

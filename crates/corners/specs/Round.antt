@@ -6,7 +6,7 @@ use lib.Dec.{ltb}
 use lib.Ieee.{lt}
 use Rattle.float32.specs.Binary32.{zeroF}
 use Rattle.types.specs.declared.Point2.{Point2}
-use Rattle.corners.specs.Ring.{any, turns}
+use Rattle.corners.specs.Ring.{anyMeets, turns}
 use Rattle.corners.specs.Acceptance.{cornerFault, flatTurn, cross2, polygonArea}
 use Rattle.corners.specs.declared.FenceResult.{FenceResult}
 use Rattle.corners.specs.declared.Round.{Round}
@@ -22,9 +22,9 @@ failed (FenceResult.Err e) = true
 unfoldable pub roundOf : List Point2 → Round
 roundOf l =
     record {
-      failed = any (λ p. failed (cornerFault p)) l;
-      flat = any flatTurn (turns l);
-      pos = any (λ t. lt zeroF (cross2 t)) (turns l);
-      neg = any (λ t. lt (cross2 t) zeroF) (turns l);
+      failed = anyMeets (λ p. failed (cornerFault p)) l;
+      flat = anyMeets flatTurn (turns l);
+      pos = anyMeets (λ t. lt zeroF (cross2 t)) (turns l);
+      neg = anyMeets (λ t. lt (cross2 t) zeroF) (turns l);
       area = polygonArea l;
     }

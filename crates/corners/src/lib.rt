@@ -4,7 +4,7 @@ ghost use Prim.Native.Nat.{_≤_, min};
 ghost use mathlib.Core.Bool.{_&&_};
 ghost use lib.Dec.{ltb};
 ghost use lib.ListN.{take};
-ghost use Rattle.corners.specs.Ring.{any, tails};
+ghost use Rattle.corners.specs.Ring.{anyMeets, tails};
 ghost use Rattle.corners.specs.Round.{place, failed, roundOf};
 ghost use Rattle.corners.specs.Acceptance.{fenceErrorNumber, declaredNumber, resultAnd, faultIf, firstFault, cornerFault, samePoint, recurs, flatTurn, cross2, areaTerm, polygonArea, polygonFault, judged};
 ghost use Rattle.corners.specs.OnceRound.{northSign, differ, joinIf, signChanges};
@@ -164,7 +164,7 @@ fn same_point(p: Point2, q: Point2) -> bool
 // Each corner p at i with each q after it, until two are alike.
 fn has_duplicate(pts: [Point2; 16], n: usize) -> bool
     requires { ⌜ n ≤ 16 ⌝ }
-    ensures { λ r. ⌜ r ≡ any recurs (tails (take n pts)) ⌝ }
+    ensures { λ r. ⌜ r ≡ anyMeets recurs (tails (take n pts)) ⌝ }
 {
     if n < 2 {
         return false;

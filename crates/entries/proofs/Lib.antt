@@ -1,4 +1,5 @@
 -- The laws that the entries' proofs cite.
 pub mod Buffers
-pub mod Declined
-pub mod NoAreas
+pub mod Judged
+pub mod Finish
+pub mod Carried

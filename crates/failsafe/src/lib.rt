@@ -3,7 +3,9 @@ ghost use mathlib.Core.Bool.{true, false};
 ghost use mathlib.Core.List.{[]};
 ghost use mathlib.Core.Path.{_≡_};
 ghost use Rattle.flight.specs.Flight.{readFlight};
-ghost use Rattle.entries.specs.Entry.{stepAny, freshCall};
+ghost use Rattle.calls.specs.Form.{base, wide};
+ghost use Rattle.calls.specs.Entry.{stepAny, freshCall};
+ghost use Rattle.calls.specs.Widen.{widenCall};
 ghost use Rattle.edit_areas.specs.Edit.{addCall, removeCall};
 ghost use Rattle.inside.specs.Call.{insideCall};
 ghost use Rattle.spelling.specs.Spell.{spellNumber, spellOutput};
@@ -80,8 +82,8 @@ pub extern "C" fn failsafe_remove_area(areas: &[u8], number: u8, output: &mut [u
 
 #[no_mangle]
 pub extern "C" fn failsafe_fresh(state: &mut [u8]) -> u32
-    ensures { λ r. ⌜ r ≡ freshCall false (now (state .entry)) .number ⌝ }
-    ensures { λ _. ⌜ now (state .exit) ≡ freshCall false (now (state .entry)) .state ⌝ }
+    ensures { λ r. ⌜ r ≡ freshCall (base false) (now (state .entry)) .number ⌝ }
+    ensures { λ _. ⌜ now (state .exit) ≡ freshCall (base false) (now (state .entry)) .state ⌝ }
 {
     entries::fresh(false, state)
 }
@@ -89,10 +91,28 @@ pub extern "C" fn failsafe_fresh(state: &mut [u8]) -> u32
 // The fresh state of a flight whose configuration is of kind 11.
 #[no_mangle]
 pub extern "C" fn failsafe_fresh_raised(state: &mut [u8]) -> u32
-    ensures { λ r. ⌜ r ≡ freshCall true (now (state .entry)) .number ⌝ }
-    ensures { λ _. ⌜ now (state .exit) ≡ freshCall true (now (state .entry)) .state ⌝ }
+    ensures { λ r. ⌜ r ≡ freshCall (base true) (now (state .entry)) .number ⌝ }
+    ensures { λ _. ⌜ now (state .exit) ≡ freshCall (base true) (now (state .entry)) .state ⌝ }
 {
     entries::fresh(true, state)
+}
+
+// Document 02, L7: a fresh state on the clock of 64 bits.
+#[no_mangle]
+pub extern "C" fn failsafe_fresh_wide(state: &mut [u8]) -> u32
+    ensures { λ r. ⌜ r ≡ freshCall wide (now (state .entry)) .number ⌝ }
+    ensures { λ _. ⌜ now (state .exit) ≡ freshCall wide (now (state .entry)) .state ⌝ }
+{
+    entries::fresh_wide(state)
+}
+
+// Document 02, L7: a running state of kind 5 carried over to kind 10; `last_now` is its last sound reading in 64 bits.
+#[no_mangle]
+pub extern "C" fn failsafe_widen(old: &[u8], last_now: u64, new: &mut [u8]) -> u32
+    ensures { λ r. ⌜ r ≡ widenCall (now (old .entry)) «last_now» (now (new .entry)) .number ⌝ }
+    ensures { λ _. ⌜ now (new .exit) ≡ widenCall (now (old .entry)) «last_now» (now (new .entry)) .state ⌝ }
+{
+    entries::widen(old, last_now, new)
 }
 
 // Before a flight: the refusal that every step with this configuration and fence would answer, 0 for none.

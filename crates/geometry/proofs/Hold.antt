@@ -12,7 +12,7 @@ use lib.Seq.{getD-at, getD-take, length-take-le, take-all, take-suc, set-at, app
 use borrow.Author.Tests.{lt-ltb, le-ltb}
 use lib.Ieee.{Float, nan, inf}
 use Rattle.types.specs.declared.Point2.{Point2}
-use Rattle.corners.specs.Ring.{pairs, sides}
+use Rattle.corners.specs.Ring.{beside, sides}
 use Rattle.geometry.specs.Polygon.{heldOrder, placeHeld}
 use Rattle.geometry.specs.Distance.{minusOne, noSide, nearestFrom, edgeSignedDistanceBy, nearestBy}
 
@@ -70,6 +70,6 @@ unfolding nearestBy
 distance-few l ms p h = rw (lt-ltb (length l) 3 h)
 
 pub distance-many : (l : List Point2) (ms : List Float) (p : Point2) → 3 ≤ length l
-    → nearestBy l ms p ≡ nearestFrom (edgeSignedDistanceBy p) 0 (noSide (inf false)) (pairs (sides l) ms)
+    → nearestBy l ms p ≡ nearestFrom (edgeSignedDistanceBy p) 0 (noSide (inf false)) (beside (sides l) ms)
 unfolding nearestBy
 distance-many l ms p h = rw (le-ltb (length l) 3 h)

@@ -7,12 +7,12 @@ use lib.Dec.{ltb}
 use lib.ListN.{length}
 use lib.Ieee.{Float, inf}
 use Rattle.types.specs.declared.Point2.{Point2}
-use Rattle.corners.specs.Ring.{pairs, sides}
+use Rattle.corners.specs.Ring.{beside, sides}
 use Rattle.geometry.specs.declared.FenceDistance.{FenceDistance}
 use Rattle.geometry.specs.Distance.{noSide, minusOne, sideLength, sideLengths, nearerSide, nearestFrom, edgeSignedDistance, edgeSignedDistanceBy, nearest, nearestBy}
 
 from-by : (p : Point2) (k : ℕ) (d : FenceDistance) (ss : List (Point2 × Point2)) (z : List Float)
-    → nearestFrom (edgeSignedDistanceBy p) k d (pairs ss (map sideLength ss ++ z)) ≡ nearestFrom (edgeSignedDistance p) k d ss
+    → nearestFrom (edgeSignedDistanceBy p) k d (beside ss (map sideLength ss ++ z)) ≡ nearestFrom (edgeSignedDistance p) k d ss
 from-by p k d [] z = refl
 from-by p k d (s ∷ ss) z = from-by p (k + 1) (nearerSide d k (edgeSignedDistance p s)) ss z
 

@@ -1,7 +1,7 @@
 -- A polygon's ring of corners, and a point's distance from its sides. The quotations are of document 01's paragraph on geometry. Assumes nothing.
 use Prim.Native.Nat.{ℕ, _+_, _-_}
 use mathlib.Core.Bool.{Bool, false, cond}
-use mathlib.Core.List.{List, [], _∷_, _++_, map}
+use mathlib.Core.List.{List, [], _∷_, _++_, map, foldl}
 use lib.Dec.{ltb}
 use lib.ListN.{length, take, getD, replicate}
 use lib.Ieee.{Float, inf, binary32, add, sub, mul, div, neg, lt, le, ofBits}
@@ -9,7 +9,7 @@ use Rattle.float32.specs.Binary32.{zeroF}
 use Rattle.float32.specs.Sqrt.{squareRoot}
 use Rattle.types.specs.declared.Point2.{Point2}
 use Rattle.types.specs.declared.OptionPoint2.{OptionPoint2}
-use Rattle.corners.specs.Ring.{fold, pairs, sides}
+use Rattle.corners.specs.Ring.{beside, sides}
 use Rattle.geometry.specs.Polygon.{zeroPoint}
 use Rattle.geometry.specs.declared.ConvexPolygon.{ConvexPolygon}
 use Rattle.geometry.specs.declared.SideLengths.{SideLengths}
@@ -61,7 +61,7 @@ nearer m d = cond (lt d m) d m
 
 -- the least of m and the distances of a list of sides
 abbrev pub least : {A : Type 0} → (A → Float) → Float → List A → Float
-least f = fold (λ m s. nearer m (f s))
+least f = foldl (λ m s. nearer m (f s))
 
 -- "Distance is the least over sides of cross product by side length"; without three corners it is −1
 unfoldable pub signedDistance : List Point2 → Point2 → Float
@@ -92,4 +92,4 @@ nearest l p = cond (ltb (length l) 3) (noSide minusOne) (nearestFrom (edgeSigned
 
 -- the same by lengths that are given, whatever they are
 unfoldable pub nearestBy : List Point2 → List Float → Point2 → FenceDistance
-nearestBy l ms p = cond (ltb (length l) 3) (noSide minusOne) (nearestFrom (edgeSignedDistanceBy p) 0 (noSide (inf false)) (pairs (sides l) ms))
+nearestBy l ms p = cond (ltb (length l) 3) (noSide minusOne) (nearestFrom (edgeSignedDistanceBy p) 0 (noSide (inf false)) (beside (sides l) ms))

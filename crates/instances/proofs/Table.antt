@@ -20,7 +20,7 @@ use Rattle.geometry.specs.Distance.{sideLength, edgeSignedDistanceBy, signedDis
 use Rattle.config.specs.Default.{decimal, defaultFence}
 use Rattle.validate.specs.Glitch.{distanceBetween, withinJump, acceptSample, applyGlitchFilter}
 use Rattle.arbiter.specs.Arbiter.{request, recover, applyPersistence, applyFeasibility, arbitrate}
-use Rattle.instances.specs.Table.{Table, whole, triangle, northOf, fenceDistance, filteredAt, shownAt}
+use Rattle.instances.specs.Table.{Table, wholeNumber, triangle, northOf, fenceDistance, filteredAt, shownAt}
 
 age-wraps : age wrapping 5 4294967291 ≡ OptionU32.Some 10
 unfolding wrappingSub age
@@ -42,18 +42,18 @@ past-limit : fresh wrapping 1001 0 1000 ≡ false
 unfolding wrappingSub age fresh
 past-limit = refl
 
-bits-of-250000 : whole 250000 ≡ ofBits binary32 0x4874_2400
+bits-of-250000 : wholeNumber 250000 ≡ ofBits binary32 0x4874_2400
 unfolding ofBits round
 bits-of-250000 = refl
 
-bits-of-500 : whole 500 ≡ ofBits binary32 0x43FA_0000
+bits-of-500 : wholeNumber 500 ≡ ofBits binary32 0x43FA_0000
 unfolding ofBits round
 bits-of-500 = refl
 
-root-of-250000 : squareRoot (whole 250000) ≡ whole 500
+root-of-250000 : squareRoot (wholeNumber 250000) ≡ wholeNumber 500
 root-of-250000 = ap squareRoot bits-of-250000 ∙ of-250000 ∙ sym bits-of-500
 
-root-of-2 : toBits binary32 (squareRoot (whole 2)) ≡ 0x3FB5_04F3
+root-of-2 : toBits binary32 (squareRoot (wholeNumber 2)) ≡ 0x3FB5_04F3
 unfolding ofBits toBits round squareRoot
 root-of-2 = refl
 
@@ -61,19 +61,19 @@ root-of-least : toBits binary32 (squareRoot (ofBits binary32 0x0000_0001)) ≡ 0
 unfolding ofBits toBits round squareRoot
 root-of-least = refl
 
-fence-at-home : fenceDistance 0 ≡ whole 500
+fence-at-home : fenceDistance 0 ≡ wholeNumber 500
 unfolding add sub mul div neg lt ofBits round squareRoot isFinite fabs eq polygonNew geofenceNew areaTerm polygonArea sideLength edgeSignedDistanceBy signedDistance defaultFence
 fence-at-home = refl
 
-fence-inside : fenceDistance 495 ≡ whole 5
+fence-inside : fenceDistance 495 ≡ wholeNumber 5
 unfolding add sub mul div neg lt ofBits round squareRoot isFinite fabs eq polygonNew geofenceNew areaTerm polygonArea sideLength edgeSignedDistanceBy signedDistance defaultFence
 fence-inside = refl
 
-fence-outside : fenceDistance 501 ≡ neg (whole 1)
+fence-outside : fenceDistance 501 ≡ neg (wholeNumber 1)
 unfolding add sub mul div neg lt ofBits round squareRoot isFinite fabs eq polygonNew geofenceNew areaTerm polygonArea sideLength edgeSignedDistanceBy signedDistance defaultFence
 fence-outside = refl
 
-area-enough : polygonFault false 3 (triangle (whole 20)) ≡ FenceResult.Ok
+area-enough : polygonFault false 3 (triangle (wholeNumber 20)) ≡ FenceResult.Ok
 unfolding add sub mul lt eq neg ofBits round isFinite fabs cornerFault samePoint flatTurn cross2 mixedTurns areaTerm polygonArea polygonTests
 area-enough = refl
 

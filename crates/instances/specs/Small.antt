@@ -8,6 +8,7 @@ use lib.Dec.{leb}
 use lib.Ieee.{Float, binary32, neg, ofBits}
 use Rattle.types.specs.declared.Action.{Action}
 use Rattle.types.specs.declared.Reason.{Reason}
+use Rattle.types.specs.declared.Point2.{Point2}
 use Rattle.types.specs.declared.Vec3.{Vec3}
 use Rattle.types.specs.declared.LandedState.{LandedState}
 use Rattle.types.specs.declared.OptionU32.{OptionU32}
@@ -19,9 +20,12 @@ use Rattle.types.specs.declared.OptionStampedBool.{OptionStampedBool}
 use Rattle.types.specs.declared.OptionStampedLandedState.{OptionStampedLandedState}
 use Rattle.types.specs.declared.EnergyEstimate.{EnergyEstimate}
 use Rattle.types.specs.declared.Telemetry.{Telemetry}
+use Rattle.types.specs.ActiveSet.{emptySet, setRequest, requestedAction}
 use Rattle.time.specs.Time.{wrapping}
 use Rattle.corners.specs.declared.FenceError.{FenceError}
-use Rattle.corners.specs.Acceptance.{fenceErrorNumber}
+use Rattle.corners.specs.declared.FenceResult.{FenceResult}
+use Rattle.corners.specs.Acceptance.{fenceErrorNumber, polygonFault}
+use Rattle.geometry.specs.Distance.{ringOf, edgeSignedDistance, contains}
 use Rattle.config.specs.declared.Config.{Config}
 use Rattle.config.specs.declared.ConfigError.{ConfigError}
 use Rattle.config.specs.declared.ConfigResult.{ConfigResult}
@@ -30,8 +34,11 @@ use Rattle.config.specs.Default.{defaultConfig, defaultFence}
 use Rattle.energy.specs.Energy.{rtlEnergy}
 use Rattle.validate.specs.declared.GlitchState.{GlitchState}
 use Rattle.validate.specs.Fresh.{confirmedDisarm, positionValid}
+use Rattle.validate.specs.Glitch.{applyGlitchFilter}
 use Rattle.timers.specs.declared.Timer.{Timer}
+use Rattle.timers.specs.Timer.{cleared}
 use Rattle.triggers.specs.declared.TriggerState.{TriggerState}
+use Rattle.triggers.specs.Families.{gcsAge, rcLink, energy}
 use Rattle.triggers.specs.Update.{freshTriggers}
 use Rattle.arbiter.specs.declared.ArbiterState.{ArbiterState}
 use Rattle.arbiter.specs.declared.Arbitrated.{Arbitrated}
@@ -41,7 +48,7 @@ use Rattle.supervisor.specs.declared.Supervisor.{Supervisor}
 use Rattle.supervisor.specs.declared.Stepped.{Stepped}
 use Rattle.supervisor.specs.Settings.{baseSettings, fenceSite, fedAt}
 use Rattle.supervisor.specs.Step.{step}
-use Rattle.instances.specs.Table.{whole, northOf}
+use Rattle.instances.specs.Table.{wholeNumber, at, northOf, storedAtOrigin}
 
 -- ---- readings at 2000: a stamp of 1000 is fresh, one of 999 is stale
 
@@ -61,6 +68,10 @@ gateBy armed landed requested = gateOpen wrapping 2000 armed landed 1000 request
 -- Land is requested, and it is armed
 abbrev pub gateOn : LandedState → Bool
 gateOn l = gateBy (OptionStampedBool.Some 1000 true) (OptionStampedLandedState.Some 1000 l) Action.Land
+
+-- what the filter makes of a sample 1000 m away, with one stored at home at 1000
+abbrev pub farAt : ℕ → OptionPositionSample
+farAt now = applyGlitchFilter wrapping storedAtOrigin now (OptionPositionSample.Some (northOf now 1000)) (wholeNumber 25) .position
 
 -- ---- the arbiter's answers
 
@@ -92,13 +103,13 @@ abbrev pub keep : {A : Type 0} → ℕ → ℕ → A → A → A
 keep k i good bad = cond (leb i k) good bad
 
 -- the first k rules are kept, and all after them are broken: no cells, no capacity, an infinite reserve, a speed of 0, a power below 0, low at warn, a
--- duration of 0, home outside, h_rtl too high
+-- duration of 0, home outside, h_rtl too high; at 10 no hand controller is required either
 abbrev pub keeping : ℕ → Config
 keeping k =
     record {
       «cell_count» = keep k 1 4 0;
-      «usable_capacity_wh» = keep k 2 (whole 40) (whole 0);
-      «rc_required» = defaultConfig .«rc_required»;
+      «usable_capacity_wh» = keep k 2 (wholeNumber 40) (wholeNumber 0);
+      «rc_required» = leb k 9;
       «pos_fresh_ms» = defaultConfig .«pos_fresh_ms»;
       «gps_fresh_ms» = defaultConfig .«gps_fresh_ms»;
       «status_fresh_ms» = defaultConfig .«status_fresh_ms»;
@@ -134,7 +145,7 @@ keeping k =
       «battery_warn_clear_pct» = defaultConfig .«battery_warn_clear_pct»;
       «battery_warn_set_ms» = defaultConfig .«battery_warn_set_ms»;
       «battery_warn_clear_ms» = defaultConfig .«battery_warn_clear_ms»;
-      «battery_low_pct» = keep k 6 (whole 20) (whole 30);
+      «battery_low_pct» = keep k 6 (wholeNumber 20) (wholeNumber 30);
       «battery_low_clear_pct» = defaultConfig .«battery_low_clear_pct»;
       «battery_low_set_ms» = defaultConfig .«battery_low_set_ms»;
       «battery_low_clear_ms» = defaultConfig .«battery_low_clear_ms»;
@@ -151,18 +162,31 @@ keeping k =
       «v_cruise» = defaultConfig .«v_cruise»;
       «p_cruise» = defaultConfig .«p_cruise»;
       «k_wind» = defaultConfig .«k_wind»;
-      «v_climb» = keep k 4 (whole 2) (whole 0);
+      «v_climb» = keep k 4 (wholeNumber 2) (wholeNumber 0);
       «p_climb» = defaultConfig .«p_climb»;
       «v_desc» = defaultConfig .«v_desc»;
-      «p_desc» = keep k 5 (whole 300) (neg (whole 1));
-      «h_rtl» = keep k 9 (whole 30) (whole 121);
-      «reserve_wh» = keep k 3 (whole 8) (bits 0x7F80_0000);
+      «p_desc» = keep k 5 (wholeNumber 300) (neg (wholeNumber 1));
+      «h_rtl» = keep k 9 (wholeNumber 30) (wholeNumber 121);
+      «reserve_wh» = keep k 3 (wholeNumber 8) (bits 0x7F80_0000);
       «v_max» = defaultConfig .«v_max»;
       «keeps_raised» = defaultConfig .«keeps_raised»;
     }
 
 abbrev pub judgedAt : ℕ → ConfigResult
-judgedAt k = checkConfig (keeping k) (keep k 8 true false) (whole 5) (whole 120)
+judgedAt k = checkConfig (keeping k) (keep k 8 true false) (wholeNumber 5) (wholeNumber 120)
+
+-- ---- corners
+
+-- the first three lie on a line, and the fourth is a dent: a flat turn, and turns of both signs
+abbrev pub flatAndDented : List Point2
+flatAndDented =
+    at (wholeNumber 0) (wholeNumber 0)
+    ∷ at (wholeNumber 0) (wholeNumber 100)
+    ∷ at (wholeNumber 0) (wholeNumber 200)
+    ∷ at (wholeNumber 50) (wholeNumber 100)
+    ∷ at (wholeNumber 100) (wholeNumber 200)
+    ∷ at (wholeNumber 100) (wholeNumber 0)
+    ∷ []
 
 -- ---- states of the supervisor
 
@@ -309,18 +333,18 @@ pub record SmallInstances : Type 0 where
       ∷ []
   -- "Float operations in the Rust's order": `r - rtl_wh - cfg.reserve_wh`; any other order gives 4109D555. Fifty metres from home and ten up, 20 Wh left.
   pub energy-away :
-      rtlEnergy defaultConfig (place (whole 30) (whole 40) (neg (whole 10))) (OptionF32.Some (whole 20))
+      rtlEnergy defaultConfig (place (wholeNumber 30) (wholeNumber 40) (neg (wholeNumber 10))) (OptionF32.Some (wholeNumber 20))
       ≡ record {
         «rtl_wh» = bits 0x4058_AAAB;
         «land_wh» = bits 0x3F0E_38E4;
-        «reserve_wh» = whole 8;
-        «remaining_wh» = OptionF32.Some (whole 20);
+        «reserve_wh» = wholeNumber 8;
+        «remaining_wh» = OptionF32.Some (wholeNumber 20);
         «margin_wh» = OptionF32.Some (bits 0x4109_D556);
         «insufficient_for_landing» = false;
       }
   -- "Altitude is −d, so d = +0 gives −0", and of the listing "rtl_wh 55 55 55 40; land_wh 00 00 00 80; reserve 00 00 00 41"
   pub energy-at-home :
-      rtlEnergy defaultConfig (place (whole 0) (whole 0) (whole 0)) OptionF32.None
+      rtlEnergy defaultConfig (place (wholeNumber 0) (wholeNumber 0) (wholeNumber 0)) OptionF32.None
       ≡ record {
         «rtl_wh» = bits 0x4055_5555;
         «land_wh» = bits 0x8000_0000;
@@ -356,3 +380,25 @@ pub record SmallInstances : Type 0 where
       ≡ after100 freshTriggers (shownLast Action.Nominal Reason.None OptionU32.None) OptionU32.None stored 7 2
   pub disarm-answers : faultAfter 1 (OptionStampedBool.Some 50 false) .decision .action ≡ Action.Nominal
   pub disarm-names-fault : faultAfter 1 (OptionStampedBool.Some 50 false) .decision .«clock_fault» ≡ true
+  -- "highest rank, then highest display_priority": the battery's is 18 and the energy's 17, where their indices are 16 and 18
+  pub names-battery :
+      requestedAction (setRequest (setRequest emptySet Reason.BatteryCritical Action.Land) Reason.EnergyRtlInfeasible Action.Land .reqs)
+      ≡ request Reason.BatteryCritical Action.Land
+  -- "any turn under 0.0001 in size; mixed turn signs", in this order
+  pub flat-before-convex : polygonFault false 6 flatAndDented ≡ FenceResult.Err FenceError.CollinearEdge
+  -- "Inside means at least 0."
+  pub inside-at-zero : contains (ringOf (defaultFence .fence .poly)) (at (wholeNumber 500) (wholeNumber 0)) ≡ true
+  -- "below 1e-6 length gives −1": a side of 1e-7 m; by its line the point would be 5 m inside
+  pub short-side : edgeSignedDistance (at (neg (wholeNumber 5)) (wholeNumber 0)) (at (wholeNumber 0) (wholeNumber 0), at (wholeNumber 0) (bits 0x33D6_BF95)) ≡ neg (wholeNumber 1)
+  -- triggers.rs: `.map(|hb| age_ms(now_ms, hb).unwrap_or(u32::MAX))`: a heartbeat from ahead is as good as none
+  pub heartbeat-ahead : gcsAge wrapping 1000 (OptionU32.Some 1001) ≡ 0xFFFF_FFFF
+  pub heartbeat-none : gcsAge wrapping 1000 OptionU32.None ≡ 0xFFFF_FFFF
+  -- triggers.rs: `let rc_bad = cfg.rc_required && ..`
+  pub rc-required : rcLink wrapping cleared cleared 1000 false (keeping 9) .lost ≡ true
+  pub rc-not-required : rcLink wrapping cleared cleared 1000 false (keeping 10) .lost ≡ false
+  -- "Latches last until confirmed disarm.": the margin is good again
+  pub energy-latch-stays : energy wrapping (running OptionU32.None) 1000 (OptionF32.Some (wholeNumber 20)) defaultConfig .latched ≡ true
+  pub energy-latch-asks : energy wrapping (running OptionU32.None) 1000 (OptionF32.Some (wholeNumber 20)) defaultConfig .infeasible ≡ true
+  -- "age absent or over 2000": at 2000 the jump is still measured
+  pub gap-of-2000 : farAt 3000 ≡ OptionPositionSample.None
+  pub gap-of-2001 : farAt 3001 ≡ OptionPositionSample.Some (northOf 3001 1000)

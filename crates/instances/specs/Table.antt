@@ -27,27 +27,27 @@ use Rattle.arbiter.specs.declared.Arbitrated.{Arbitrated}
 use Rattle.arbiter.specs.Arbiter.{request, arbitrate}
 
 -- a whole number
-abbrev pub whole : ℕ → Float
-whole n = decimal n 1
+abbrev pub wholeNumber : ℕ → Float
+wholeNumber n = decimal n 1
 
 abbrev pub at : Float → Float → Point2
 at n e = record { n = n; e = e }
 
 -- the distance from the default fence of the point (n, 0)
 abbrev pub fenceDistance : ℕ → Float
-fenceDistance n = signedDistance (ringOf (defaultFence .fence .poly)) (at (whole n) (whole 0))
+fenceDistance n = signedDistance (ringOf (defaultFence .fence .poly)) (at (wholeNumber n) (wholeNumber 0))
 
 -- a triangle with a side of the given length
 abbrev pub triangle : Float → List Point2
-triangle side = at (whole 0) (whole 0) ∷ at (whole 0) side ∷ at (whole 10) (whole 0) ∷ []
+triangle side = at (wholeNumber 0) (wholeNumber 0) ∷ at (wholeNumber 0) side ∷ at (wholeNumber 10) (wholeNumber 0) ∷ []
 
 -- a sample so many metres north of home
 abbrev pub northOf : ℕ → ℕ → PositionSample
 northOf t n =
     record {
       «t_ms» = t;
-      pos = record { n = whole n; e = whole 0; d = whole 0 };
-      vel = record { n = whole 0; e = whole 0; d = whole 0 };
+      pos = record { n = wholeNumber n; e = wholeNumber 0; d = wholeNumber 0 };
+      vel = record { n = wholeNumber 0; e = wholeNumber 0; d = wholeNumber 0 };
     }
 
 abbrev pub storedAtOrigin : GlitchState
@@ -55,7 +55,7 @@ storedAtOrigin = record { «last_accepted» = OptionPositionSample.Some (northOf
 
 -- what the filter makes of a sample n metres away, at 2000 with v_max 25
 abbrev pub filteredAt : ℕ → OptionPositionSample
-filteredAt n = applyGlitchFilter wrapping storedAtOrigin 2000 (OptionPositionSample.Some (northOf 2000 n)) (whole 25) .position
+filteredAt n = applyGlitchFilter wrapping storedAtOrigin 2000 (OptionPositionSample.Some (northOf 2000 n)) (wholeNumber 25) .position
 
 -- ReturnToLaunch was shown
 abbrev pub returning : ArbiterState
@@ -80,16 +80,16 @@ pub record Table : Type 0 where
   pub at-limit : fresh wrapping 1000 0 1000 ≡ true
   pub past-limit : fresh wrapping 1001 0 1000 ≡ false
   -- root of 250,000; of 2 | 500; bits 3FB504F3
-  pub root-of-250000 : squareRoot (whole 250000) ≡ whole 500
-  pub root-of-2 : toBits binary32 (squareRoot (whole 2)) ≡ 0x3FB5_04F3
+  pub root-of-250000 : squareRoot (wholeNumber 250000) ≡ wholeNumber 500
+  pub root-of-2 : toBits binary32 (squareRoot (wholeNumber 2)) ≡ 0x3FB5_04F3
   -- root of bits 00000001 | bits 1A3504F3
   pub root-of-least : toBits binary32 (squareRoot (ofBits binary32 0x0000_0001)) ≡ 0x1A35_04F3
   -- default fence at (0, 0), (495, 0), (501, 0) | 500, 5, −1
-  pub fence-at-home : fenceDistance 0 ≡ whole 500
-  pub fence-inside : fenceDistance 495 ≡ whole 5
-  pub fence-outside : fenceDistance 501 ≡ neg (whole 1)
+  pub fence-at-home : fenceDistance 0 ≡ wholeNumber 500
+  pub fence-inside : fenceDistance 495 ≡ wholeNumber 5
+  pub fence-outside : fenceDistance 501 ≡ neg (wholeNumber 1)
   -- corners (0,0), (0,20), (10,0); with 19.9 for 20 | accepted; AreaTooSmall
-  pub area-enough : polygonFault false 3 (triangle (whole 20)) ≡ FenceResult.Ok
+  pub area-enough : polygonFault false 3 (triangle (wholeNumber 20)) ≡ FenceResult.Ok
   pub area-too-small : polygonFault false 3 (triangle (decimal 199 10)) ≡ FenceResult.Err FenceError.AreaTooSmall
   -- GpsLost and EkfUnhealthy, both Land | EkfUnhealthy
   pub names-ekf : requestedAction (setRequest (setRequest emptySet Reason.GpsLost Action.Land) Reason.EkfUnhealthy Action.Land .reqs) ≡ request Reason.EkfUnhealthy Action.Land

@@ -10,9 +10,13 @@ use Rattle.types.specs.declared.Action.{Action}
 use Rattle.types.specs.declared.ActiveSet.{ActiveSet}
 use Rattle.types.specs.declared.Decision.{Decision}
 use Rattle.types.specs.declared.EnergyEstimate.{EnergyEstimate}
+use Rattle.types.specs.declared.LandedState.{LandedState}
 use Rattle.types.specs.declared.OptionAction.{OptionAction}
 use Rattle.types.specs.declared.OptionF32.{OptionF32}
+use Rattle.types.specs.declared.OptionLandedState.{OptionLandedState}
 use Rattle.types.specs.declared.OptionReason.{OptionReason}
+use Rattle.types.specs.declared.OptionStampedBool.{OptionStampedBool}
+use Rattle.types.specs.declared.OptionStampedLandedState.{OptionStampedLandedState}
 use Rattle.types.specs.declared.OptionU32.{OptionU32}
 use Rattle.types.specs.declared.Point2.{Point2}
 use Rattle.types.specs.declared.Reason.{Reason}
@@ -21,6 +25,7 @@ use Rattle.types.specs.Numbers.{rank, index, displayPriority}
 use Rattle.types.specs.ActiveSet.{setRequest, clearRequest}
 use Rattle.geometry.specs.declared.Geofence.{Geofence}
 use Rattle.energy.specs.Energy.{rtlEnergy}
+use Rattle.disarm.specs.declared.DisarmGate.{DisarmGate}
 use Rattle.frame_config.specs.declared.ConfigRead.{ConfigRead}
 use Rattle.frame_fence.specs.declared.FenceRead.{FenceRead}
 use Rattle.frame_fence.specs.FenceFrame.{fenceOf, fenceNumber, fenceFrame}
@@ -135,3 +140,22 @@ estimateFrame e = decisionFrame (withEnergy blankDecision e)
 abbrev pub energyCall : ConfigRead → Vec3 → OptionF32 → List ℕ → Call
 energyCall (ConfigRead.Refused n) pos remaining to = refused n to
 energyCall (ConfigRead.Frame cfg) pos remaining to = written (estimateFrame (rtlEnergy cfg pos remaining)) to
+
+-- the gate: the hold's start, or 2 ^ 32 where no hold has begun
+abbrev pub sinceOr : OptionU32 → ℕ
+sinceOr OptionU32.None = 0x1_0000_0000
+sinceOr (OptionU32.Some n) = n
+
+abbrev pub gateOf : Bool → ℕ → DisarmGate
+gateOf held since = record { «hold_since_ms» = cond held (OptionU32.Some since) OptionU32.None }
+
+-- the two readings that it goes by
+abbrev pub stampedBool : Bool → ℕ → Bool → OptionStampedBool
+stampedBool present t x = cond present (OptionStampedBool.Some t x) OptionStampedBool.None
+
+abbrev pub landedOr : OptionLandedState → LandedState
+landedOr OptionLandedState.None = LandedState.Undefined
+landedOr (OptionLandedState.Some l) = l
+
+abbrev pub stampedLanded : Bool → ℕ → LandedState → OptionStampedLandedState
+stampedLanded present t l = cond present (OptionStampedLandedState.Some t l) OptionStampedLandedState.None

@@ -5,25 +5,32 @@ ghost use mathlib.Core.Path.{_≡_};
 ghost use lib.ListN.{take};
 ghost use Rattle.wire.specs.Frame.{roomFault, frameWritten};
 ghost use Rattle.time.specs.Time.{wrapping, age, fresh};
-ghost use Rattle.types.specs.Numbers.{rank, actionOfRank, index, fromIndex, displayPriority};
+ghost use Rattle.types.specs.Numbers.{landedOfNumber, rank, actionOfRank, index, fromIndex, displayPriority};
 ghost use Rattle.types.specs.ActiveSet.{requestedAction};
 ghost use Rattle.types.specs.Vec3.{altM, horizontalDistHome};
 ghost use Rattle.geometry.specs.Polygon.{polygonNew};
 ghost use Rattle.geometry.specs.Distance.{ringOf, signedDistance, contains};
+ghost use Rattle.disarm.specs.Disarm.{closed, evaluate};
 ghost use Rattle.config.specs.Default.{defaultConfig, defaultFence};
 ghost use Rattle.frame_config.specs.ConfigFrame.{readConfig, configFrame};
 ghost use Rattle.frame_fence.specs.FenceFrame.{readFence, fenceOf, fenceNumber};
 ghost use Rattle.frame_decision.specs.DecisionFrame.{readDecision};
-ghost use Rattle.leaves_c.specs.Leaves.{ageOr, indexOr, priorityOr, rankOr, reasonOr, actionOr, vec3, point2, optionOf, placesFrame, heldCall, filedCall, clearedCall, energyCall, estimateFrame};
+ghost use Rattle.leaves_c.specs.Leaves.{ageOr, indexOr, priorityOr, rankOr, reasonOr, actionOr, vec3, point2, optionOf, placesFrame, heldCall, filedCall, clearedCall, energyCall, estimateFrame, sinceOr, gateOf, stampedBool, landedOr, stampedLanded};
 use config::Config;
+use disarm::DisarmGate;
+use disarm::Evaluated;
 use frame_config::ConfigRead;
 use geometry::ConvexPolygon;
 use geometry::Geofence;
 use types::Action;
 use types::EnergyEstimate;
+use types::LandedState;
 use types::OptionAction;
 use types::OptionF32;
+use types::OptionLandedState;
 use types::OptionReason;
+use types::OptionStampedBool;
+use types::OptionStampedLandedState;
 use types::OptionU32;
 use types::Point2;
 use types::Reason;
@@ -315,4 +322,172 @@ pub extern "C" fn leaf_energy(
             write_estimate(estimate, to) as u32
         }
     }
+}
+
+fn gate_of(held: bool, since: u32) -> DisarmGate
+    ensures { λ r. ⌜ r ≡ gateOf held since ⌝ }
+{
+    if held {
+        DisarmGate {
+            hold_since_ms: OptionU32::Some(since),
+        }
+    } else {
+        disarm::reset_gate()
+    }
+}
+
+fn since_left(gate: DisarmGate) -> u64
+    ensures { λ r. ⌜ r ≡ sinceOr (gate .«hold_since_ms») ⌝ }
+{
+    let since = gate.hold_since_ms;
+    match since {
+        OptionU32::Some(t) => t as u64,
+        OptionU32::None => 4294967296,
+    }
+}
+
+fn stamped_bool(present: bool, t: u32, x: bool) -> OptionStampedBool
+    ensures { λ r. ⌜ r ≡ stampedBool present t x ⌝ }
+{
+    if present {
+        OptionStampedBool::Some { t_ms: t, value: x }
+    } else {
+        OptionStampedBool::None
+    }
+}
+
+fn landed_of(n: u8) -> LandedState
+    ensures { λ r. ⌜ r ≡ landedOr (landedOfNumber n) ⌝ }
+{
+    match LandedState::from_number(n) {
+        OptionLandedState::Some(l) => l,
+        OptionLandedState::None => LandedState::Undefined,
+    }
+}
+
+fn stamped_landed(present: bool, t: u32, l: LandedState) -> OptionStampedLandedState
+    ensures { λ r. ⌜ r ≡ stampedLanded present t l ⌝ }
+{
+    if present {
+        OptionStampedLandedState::Some { t_ms: t, value: l }
+    } else {
+        OptionStampedLandedState::None
+    }
+}
+
+// A gate that is lent to `evaluate`, with what it answers.
+fn evaluated(
+    held: bool,
+    since: u32,
+    now_ms: u32,
+    armed_known: bool,
+    armed_ms: u32,
+    armed: bool,
+    landed_known: bool,
+    landed_ms: u32,
+    landed: u8,
+    status_fresh_ms: u32,
+    disarm_hold_ms: u32,
+    requested: u8,
+    clock_fault: bool,
+) -> Evaluated
+    ensures { λ r. ⌜ r ≡ evaluate wrapping (gateOf held since) «now_ms» (stampedBool «armed_known» «armed_ms» armed) (stampedLanded «landed_known» «landed_ms» (landedOr (landedOfNumber landed))) «status_fresh_ms» «disarm_hold_ms» (actionOr (actionOfRank requested)) «clock_fault» ⌝ }
+{
+    let gate = gate_of(held, since);
+    let a = stamped_bool(armed_known, armed_ms, armed);
+    let l = stamped_landed(landed_known, landed_ms, landed_of(landed));
+    let wanted = action_of(requested);
+    disarm::evaluate_lent(
+        gate,
+        now_ms,
+        a,
+        l,
+        status_fresh_ms,
+        disarm_hold_ms,
+        wanted,
+        clock_fault,
+    )
+}
+
+#[no_mangle]
+pub extern "C" fn leaf_gate_eligible(
+    held: bool,
+    since: u32,
+    now_ms: u32,
+    armed_known: bool,
+    armed_ms: u32,
+    armed: bool,
+    landed_known: bool,
+    landed_ms: u32,
+    landed: u8,
+    status_fresh_ms: u32,
+    disarm_hold_ms: u32,
+    requested: u8,
+    clock_fault: bool,
+) -> bool
+    ensures { λ r. ⌜ r ≡ evaluate wrapping (gateOf held since) «now_ms» (stampedBool «armed_known» «armed_ms» armed) (stampedLanded «landed_known» «landed_ms» (landedOr (landedOfNumber landed))) «status_fresh_ms» «disarm_hold_ms» (actionOr (actionOfRank requested)) «clock_fault» .eligible ⌝ }
+{
+    let e = evaluated(
+        held,
+        since,
+        now_ms,
+        armed_known,
+        armed_ms,
+        armed,
+        landed_known,
+        landed_ms,
+        landed,
+        status_fresh_ms,
+        disarm_hold_ms,
+        requested,
+        clock_fault,
+    );
+    e.eligible
+}
+
+// The start of the hold in the gate that is left.
+#[no_mangle]
+pub extern "C" fn leaf_gate_since(
+    held: bool,
+    since: u32,
+    now_ms: u32,
+    armed_known: bool,
+    armed_ms: u32,
+    armed: bool,
+    landed_known: bool,
+    landed_ms: u32,
+    landed: u8,
+    status_fresh_ms: u32,
+    disarm_hold_ms: u32,
+    requested: u8,
+    clock_fault: bool,
+) -> u64
+    ensures { λ r. ⌜ r ≡ sinceOr (evaluate wrapping (gateOf held since) «now_ms» (stampedBool «armed_known» «armed_ms» armed) (stampedLanded «landed_known» «landed_ms» (landedOr (landedOfNumber landed))) «status_fresh_ms» «disarm_hold_ms» (actionOr (actionOfRank requested)) «clock_fault» .gate .«hold_since_ms») ⌝ }
+{
+    let e = evaluated(
+        held,
+        since,
+        now_ms,
+        armed_known,
+        armed_ms,
+        armed,
+        landed_known,
+        landed_ms,
+        landed,
+        status_fresh_ms,
+        disarm_hold_ms,
+        requested,
+        clock_fault,
+    );
+    let gate = e.gate;
+    since_left(gate)
+}
+
+// The same of a gate that is lent to `reset`.
+#[no_mangle]
+pub extern "C" fn leaf_gate_reset(held: bool, since: u32) -> u64
+    ensures { λ r. ⌜ r ≡ sinceOr (closed .«hold_since_ms») ⌝ }
+{
+    let gate = disarm::reset_lent(gate_of(held, since));
+    since_left(gate)
 }

@@ -42,14 +42,15 @@ use Rattle.frame_telemetry.specs.Readings.{fixAt, landedAt, optionGpsAt, stampe
 use Rattle.frame_telemetry.specs.TelemetryFrame.{telemetryAt, telemetryTests, telemetryValid, readTelemetry, batteryCells as chargeCells, statusCells, telemetryCells, telemetryFrame}
 use Rattle.frame_decision.specs.DecisionFrame.{decisionFrame}
 use Rattle.flight.specs.Flight.{acceptFlight, refusedFlight, readFlight, stepFlight}
-use Rattle.entries.specs.Entry.{stepAny, freshCall}
+use Rattle.calls.specs.Form.{base, stateSize, formOf}
+use Rattle.calls.specs.Entry.{stepAny, freshCall}
 use Rattle.areas.specs.Clearance.{clearance}
 use Rattle.frame_areas.specs.AreasFrame.{bodies, heldIn, areasFault, bodiesOf, clearanceAt}
-use Rattle.run.specs.Run.{stateSize, shownAction, stateBytes, UnderConfig}
+use Rattle.run.specs.Run.{shownAction, stateBytes, UnderConfig}
 use Rattle.run.specs.Instances.{config, fence, slice, inFlight}
 use Rattle.run.proofs.Instances.{below, tested}
 use Rattle.no_controller.specs.Claim.{EqualBut, SameCall, outputs}
-use Rattle.no_controller.specs.Instances.{notRequired, read, linked, lost, damaged, call, answerTo, rcTimer, OnePair, Alike, SameDeclined, NoControllerInstances}
+use Rattle.no_controller.specs.Instances.{notRequired, read, form, linked, lost, damaged, call, answerTo, rcTimer, OnePair, Alike, SameDeclined, NoControllerInstances}
 use Rattle.no_controller.proofs.Claim.{no-controller-claim}
 
 -- ---- the telemetry
@@ -94,7 +95,7 @@ record Computed : Type 0 where
   shown-lost : shownAction (answerTo config lost .output) ≡ Action.ReturnToLaunch
 
 computed : Computed
-unfolding linked lost damaged notRequired add sub mul div neg lt le ofBits toBits ofInt round isNan config fence slice inFlight stateBytes isFinite fabs isNegative fmax squareRoot setRequest higherRequest requestedAction altM horizontalDistHome wrappingSub age fresh holdMet cornerFault samePoint flatTurn cross2 mixedTurns areaTerm polygonArea polygonTests polygonNew geofenceNew sideLength edgeSignedDistanceBy signedDistance nearest nearestBy contains badCellCount badCapacity nonFiniteParam nonPositiveSpeed negativePower badThresholdOrder outsideDuration durationOutOfRange rtlAltOutsideFence checkConfig validateConfig defaultConfig rtlWh landWh rtlEnergyAt rtlEnergy withinPosition withinVelocity validatePositionSample validateGps validatePercent validateTelemetry freshBatteryPercent freshRemainingWh freshVoltage distanceBetween withinJump acceptSample applyGlitchFilter invalidInput stageRequest gcsStage gcsClearing gcsLink rcLink gps ekf fenceApproach fenceBreach altitudeMax altitudeMin fenceFamily staleBattery batteryWarn batteryLow batteryCritical battery energyMarginal energy heldSet holdPair raisedBy raisedOf freshTriggers families linkRequests fenceRequests batteryRequests requests nextTriggers update applyPersistence applyFeasibility arbitrate gateOpen evaluate soundClock clockStep freshSupervisor sense decisionOf flown step u8At numberAt u16At u32At f32At flagAt byteBelow leBytes le8 le16 le32 leF32 leFlag frameHead frameFault frameWritten actionAt reasonAt leAction leReason zeros validOption optionU8At optionU32At leOptionU32 optionF32At vec3At leVec3 optionPositionAt leOptionPosition keepsRaised configAt readConfig freshnessCells linkCells fenceCells batteryCells energyCells flightCells configCells configFrame pointAt cornersAt cornerArray asksOnceRound fenceFault cornersSent readFence fenceRules fenceOf cornerCells sentCells fenceFrame timerAt triggersAt arbiterAt stateAt timersValid stateValid raisedRead raisedValid readState leTimer leLinks leFence leBattery leInput leTriggers leArbiter stateFrame fixAt landedAt optionGpsAt stampedF32At stampedBoolAt stampedLandedAt telemetryAt telemetryTests telemetryValid readTelemetry chargeCells statusCells telemetryCells telemetryFrame decisionFrame acceptFlight refusedFlight readFlight stepFlight stepAny freshCall bodies heldIn areasFault bodiesOf clearance clearanceAt
+unfolding linked lost damaged notRequired add sub mul div neg lt le ofBits toBits ofInt round isNan config fence slice inFlight stateBytes isFinite fabs isNegative fmax squareRoot setRequest higherRequest requestedAction altM horizontalDistHome wrappingSub age fresh holdMet cornerFault samePoint flatTurn cross2 mixedTurns areaTerm polygonArea polygonTests polygonNew geofenceNew sideLength edgeSignedDistanceBy signedDistance nearest nearestBy contains badCellCount badCapacity nonFiniteParam nonPositiveSpeed negativePower badThresholdOrder outsideDuration durationOutOfRange rtlAltOutsideFence checkConfig validateConfig defaultConfig rtlWh landWh rtlEnergyAt rtlEnergy withinPosition withinVelocity validatePositionSample validateGps validatePercent validateTelemetry freshBatteryPercent freshRemainingWh freshVoltage distanceBetween withinJump acceptSample applyGlitchFilter invalidInput stageRequest gcsStage gcsClearing gcsLink rcLink gps ekf fenceApproach fenceBreach altitudeMax altitudeMin fenceFamily staleBattery batteryWarn batteryLow batteryCritical battery energyMarginal energy heldSet holdPair raisedBy raisedOf freshTriggers families linkRequests fenceRequests batteryRequests requests nextTriggers update applyPersistence applyFeasibility arbitrate gateOpen evaluate soundClock clockStep freshSupervisor sense decisionOf flown step u8At numberAt u16At u32At f32At flagAt byteBelow leBytes le8 le16 le32 leF32 leFlag frameHead frameFault frameWritten actionAt reasonAt leAction leReason zeros validOption optionU8At optionU32At leOptionU32 optionF32At vec3At leVec3 optionPositionAt leOptionPosition keepsRaised configAt readConfig freshnessCells linkCells fenceCells batteryCells energyCells flightCells configCells configFrame pointAt cornersAt cornerArray asksOnceRound fenceFault cornersSent readFence fenceRules fenceOf cornerCells sentCells fenceFrame timerAt triggersAt arbiterAt stateAt timersValid stateValid raisedRead raisedValid readState leTimer leLinks leFence leBattery leInput leTriggers leArbiter stateFrame fixAt landedAt optionGpsAt stampedF32At stampedBoolAt stampedLandedAt telemetryAt telemetryTests telemetryValid readTelemetry chargeCells statusCells telemetryCells telemetryFrame decisionFrame acceptFlight refusedFlight readFlight stepFlight formOf stepAny freshCall bodies heldIn areasFault bodiesOf clearance clearanceAt
 computed =
     record {
       accepted = refl;
@@ -118,14 +119,14 @@ computed =
 
 -- ---- the premises
 
-room : (b : Bool) → b ≡ false → stateSize b ≤ length slice
+room : (b : Bool) → b ≡ false → stateSize (base b) ≤ length slice
 unfolding slice
-room b e = subst (λ (x : Bool). stateSize x ≤ length slice) (sym e) (lit≤ tt)
+room b e = subst (λ (x : Bool). stateSize (base x) ≤ length slice) (sym e) (lit≤ tt)
 
-same : (frame a b : List ℕ) → EqualBut 94 100 a b → SameCall (call frame a) (call frame b)
+same : (frame a b : List ℕ) → EqualBut 94 100 a b → SameCall (form frame) (call frame a) (call frame b)
 same frame a b h = record { withSide = refl; config = refl; fence = refl; telemetry = h; output = refl; areas = refl }
 
-under : (frame a : List ℕ) → below a ≡ true → UnderConfig (read frame .«keeps_raised») slice (read frame) (call frame a ∷ [])
+under : (frame a : List ℕ) → below a ≡ true → UnderConfig (form frame) slice (read frame) (call frame a ∷ [])
 under frame a h = (tested a h, (inr refl, tt))
 
 pair : (frame a b : List ℕ) → readFlight frame fence .refused ≡ 0 → read frame .«keeps_raised» ≡ false → below a ≡ true → below b ≡ true → EqualBut 94 100 a b → OnePair frame a b
@@ -159,7 +160,7 @@ no-controller-instances =
       quiet = quiet;
       quiet-off = c .off;
       quiet-declined = declined;
-      quiet-alike = no-controller-claim (read notRequired) (c .off) slice (quiet .room) (call notRequired linked ∷ []) (call notRequired lost ∷ []) (quiet .first-under) (quiet .second-under) declined;
+      quiet-alike = no-controller-claim (form notRequired) (read notRequired) refl (c .off) slice (quiet .room) (call notRequired linked ∷ []) (call notRequired lost ∷ []) (quiet .first-under) (quiet .second-under) declined;
       timer-runs = c .linked-timer;
       timer-rests = c .lost-timer;
       apart = pair notRequired damaged linked (c .accepted) (c .kind) (s .damaged-bytes) (s .linked-bytes) (s .damaged-same);

@@ -1,12 +1,13 @@
 -- Document 02, L4, about the bytes that the C host hands over: "two runs from a fresh Supervisor, equal in everything but rc_ok and with the same calls
 -- declined". Lists have the latest call first. Assumes nothing.
 use Prim.Native.Nat.{ℕ, _≤_}
-use mathlib.Core.Bool.{Bool, false}
+use mathlib.Core.Bool.{false}
 use mathlib.Core.List.{List, [], _∷_}
 use mathlib.Core.Path.{_≡_}
 use lib.ListN.{length, take, drop}
 use Rattle.config.specs.declared.Config.{Config}
-use Rattle.run.specs.Run.{Call, stateSize, stateBytes, answered, isStep, UnderConfig}
+use Rattle.calls.specs.Form.{Form, base, wide, stateSize}
+use Rattle.run.specs.Run.{Call, Beside, stateBytes, answered, isStep, UnderConfig}
 
 -- two slices of one length that are equal but for the bytes from `from` up to, and not with, `to`
 pub record EqualBut (from to : ℕ) (a b : List ℕ) : Type 0 where
@@ -14,41 +15,59 @@ pub record EqualBut (from to : ℕ) (a b : List ℕ) : Type 0 where
   pub before : take from a ≡ take from b
   pub behind : drop to a ≡ drop to b
 
--- "equal in everything but rc_ok": its bytes, 94 to 99 of a telemetry slice (`telemetryAt`), may be any, in declined calls too
-pub record SameCall (a b : Call) : Type 0 where
+-- where rc_ok stands in a telemetry slice, its flag, stamp and value: bytes 94 to 99 of a kind 3, and 130 to 139 of a kind 9
+abbrev pub rcFrom : Form → ℕ
+rcFrom (base keeps) = 94
+rcFrom wide = 130
+
+abbrev pub rcTo : Form → ℕ
+rcTo (base keeps) = 100
+rcTo wide = 140
+
+-- where the RC clear timer stands in a state image, its flag and instant: bytes 11 to 15 of kinds 5 and 12, and 15 to 23 of a kind 10
+abbrev pub timerFrom : Form → ℕ
+timerFrom (base keeps) = 11
+timerFrom wide = 15
+
+abbrev pub timerTo : Form → ℕ
+timerTo (base keeps) = 16
+timerTo wide = 24
+
+-- "equal in everything but rc_ok": its bytes may be any, in declined calls too
+pub record SameCall (form : Form) (a b : Call) : Type 0 where
   pub withSide : a .withSide ≡ b .withSide
   pub config : a .config ≡ b .config
   pub fence : a .fence ≡ b .fence
-  pub telemetry : EqualBut 94 100 (a .telemetry) (b .telemetry)
+  pub telemetry : EqualBut (rcFrom form) (rcTo form) (a .telemetry) (b .telemetry)
   pub output : a .output ≡ b .output
   pub areas : a .areas ≡ b .areas
 
-module _ (keeps : Bool) (slice : List ℕ) where
+module _ (form : Form) (slice : List ℕ) where
   -- "and with the same calls declined": the numbers may differ
   abbrev pub SameCalls : List Call → List Call → Type 0
   SameCalls [] [] = Unit {0}
   SameCalls [] (b ∷ others) = ⊥
   SameCalls (a ∷ earlier) [] = ⊥
   SameCalls (a ∷ earlier) (b ∷ others) =
-      SameCall a b × ((isStep keeps slice a earlier ≡ isStep keeps slice b others) × SameCalls earlier others)
+      SameCall form a b × ((isStep form slice a earlier ≡ isStep form slice b others) × SameCalls earlier others)
 
   -- the output slices as the calls leave them
   unfoldable pub outputs : List Call → List (List ℕ)
   outputs [] = []
-  outputs (c ∷ earlier) = answered keeps slice c earlier .output ∷ outputs earlier
+  outputs (c ∷ earlier) = answered form slice c earlier .output ∷ outputs earlier
 
--- "then write the same Decisions byte for byte. Their state images may differ in the RC clear timer and nowhere else": bytes 11 to 15 of a state frame
--- (`triggersAt`). The earlier calls of both lists are such lists too, so this holds after every call.
-pub record NoController (slice : List ℕ) (cfg : Config) (first second : List Call) : Type 0 where
-  pub decisions : outputs (cfg .«keeps_raised») slice first ≡ outputs (cfg .«keeps_raised») slice second
-  pub images : EqualBut 11 16 (stateBytes (cfg .«keeps_raised») slice first) (stateBytes (cfg .«keeps_raised») slice second)
+-- "then write the same Decisions byte for byte. Their state images may differ in the RC clear timer and nowhere else". The earlier calls of both lists are
+-- such lists too, so this holds after every call.
+pub record NoController (form : Form) (slice : List ℕ) (first second : List Call) : Type 0 where
+  pub decisions : outputs form slice first ≡ outputs form slice second
+  pub images : EqualBut (timerFrom form) (timerTo form) (stateBytes form slice first) (stateBytes form slice second)
 
--- "Some crews set rc_required false": for every such configuration, of kind 1 or 11, and every two lists of calls of any step entry, each call with its
--- own fence and areas, declined ones with any bytes among them; `slice` is what the fresh entry was handed
+-- "Some crews set rc_required false": for every form, every such configuration that it goes with, and every two lists of calls of any step entry, each call
+-- with its own fence and areas, declined ones with any bytes among them; `slice` is what the fresh entry was handed
 abbrev pub NoControllerClaim : Type 0
 NoControllerClaim =
-    (cfg : Config) → cfg .«rc_required» ≡ false
-    → (slice : List ℕ) → stateSize (cfg .«keeps_raised») ≤ length slice
-    → (first second : List Call) → UnderConfig (cfg .«keeps_raised») slice cfg first → UnderConfig (cfg .«keeps_raised») slice cfg second
-    → SameCalls (cfg .«keeps_raised») slice first second
-    → NoController slice cfg first second
+    (form : Form) (cfg : Config) → Beside form cfg → cfg .«rc_required» ≡ false
+    → (slice : List ℕ) → stateSize form ≤ length slice
+    → (first second : List Call) → UnderConfig form slice cfg first → UnderConfig form slice cfg second
+    → SameCalls form slice first second
+    → NoController form slice first second

@@ -8,8 +8,9 @@ use Rattle.types.specs.declared.Action.{Action}
 use Rattle.config.specs.declared.Config.{Config}
 use Rattle.frame_telemetry.specs.TelemetryFrame.{telemetryFrame}
 use Rattle.flight.specs.Flight.{readFlight}
-use Rattle.entries.specs.Entry.{StepCall}
-use Rattle.run.specs.Run.{Call, stateSize, answered, shownAction, UnderConfig}
+use Rattle.calls.specs.Form.{Form, base, stateSize}
+use Rattle.calls.specs.Entry.{StepCall}
+use Rattle.run.specs.Run.{Call, answered, shownAction, UnderConfig}
 use Rattle.run.specs.Instances.{config, fence, slice, inFlight}
 use Rattle.no_controller.specs.Claim.{SameCall, SameCalls, NoController}
 
@@ -19,6 +20,10 @@ notRequired = set config 9 0
 
 abbrev pub read : List ℕ → Config
 read frame = readFlight frame fence .cfg
+
+-- the form of a state of kind 5 or 12
+abbrev pub form : List ℕ → Form
+form frame = base (read frame .«keeps_raised»)
 
 -- thirty metres above home, with the pilot's link there or lost; and with 2 for the flag of rc_ok
 unfoldable pub linked : List ℕ
@@ -35,7 +40,7 @@ call frame telemetry = record { withSide = false; config = frame; fence = fence;
 
 -- the one call of a run from a fresh state
 abbrev pub answerTo : List ℕ → List ℕ → StepCall
-answerTo frame telemetry = answered (read frame .«keeps_raised») slice (call frame telemetry) []
+answerTo frame telemetry = answered (form frame) slice (call frame telemetry) []
 
 -- the bytes of the RC clear timer in a state image
 abbrev pub rcTimer : List ℕ → List ℕ
@@ -44,16 +49,16 @@ rcTimer image = take 5 (drop 11 image)
 -- two runs of one call each, under one configuration, that differ in rc_ok alone
 pub record OnePair (frame first second : List ℕ) : Type 0 where
   pub accepted : readFlight frame fence .refused ≡ 0
-  pub room : stateSize (read frame .«keeps_raised») ≤ length slice
-  pub first-under : UnderConfig (read frame .«keeps_raised») slice (read frame) (call frame first ∷ [])
-  pub second-under : UnderConfig (read frame .«keeps_raised») slice (read frame) (call frame second ∷ [])
-  pub same : SameCall (call frame first) (call frame second)
+  pub room : stateSize (form frame) ≤ length slice
+  pub first-under : UnderConfig (form frame) slice (read frame) (call frame first ∷ [])
+  pub second-under : UnderConfig (form frame) slice (read frame) (call frame second ∷ [])
+  pub same : SameCall (form frame) (call frame first) (call frame second)
 
 abbrev pub Alike : List ℕ → List ℕ → List ℕ → Type 0
-Alike frame first second = NoController slice (read frame) (call frame first ∷ []) (call frame second ∷ [])
+Alike frame first second = NoController (form frame) slice (call frame first ∷ []) (call frame second ∷ [])
 
 abbrev pub SameDeclined : List ℕ → List ℕ → List ℕ → Type 0
-SameDeclined frame first second = SameCalls (read frame .«keeps_raised») slice (call frame first ∷ []) (call frame second ∷ [])
+SameDeclined frame first second = SameCalls (form frame) slice (call frame first ∷ []) (call frame second ∷ [])
 
 pub record NoControllerInstances : Type 0 where
   -- every premise is met: the runs are alike, and their images differ in the RC clear timer

@@ -13,34 +13,34 @@ use Rattle.corners.specs.declared.FenceResult.{FenceResult}
 use Rattle.frame_fence.specs.FenceFrame.{readFence, fenceOf, fenceFrame}
 
 -- so many metres north or east, and south or west
-abbrev pub plus : ℕ → Float
-plus k = round binary32 false k 1
+abbrev pub aboveZero : ℕ → Float
+aboveZero k = round binary32 false k 1
 
-abbrev pub minus : ℕ → Float
-minus k = round binary32 true k 1
+abbrev pub belowZero : ℕ → Float
+belowZero k = round binary32 true k 1
 
 abbrev pub point : Float → Float → Point2
 point n e = record { n = n; e = e }
 
 -- a star: its sides cross, and all its turns have one sign
 abbrev pub star : List Point2
-star = point (plus 300) (plus 0) ∷ point (minus 200) (plus 200) ∷ point (plus 100) (minus 300) ∷ point (plus 100) (plus 300) ∷ point (minus 200) (minus 200) ∷ []
+star = point (aboveZero 300) (aboveZero 0) ∷ point (belowZero 200) (aboveZero 200) ∷ point (aboveZero 100) (belowZero 300) ∷ point (aboveZero 100) (aboveZero 300) ∷ point (belowZero 200) (belowZero 200) ∷ []
 
 -- one of less than 100 square metres
 abbrev pub smallStar : List Point2
-smallStar = point (plus 3) (plus 0) ∷ point (minus 2) (plus 2) ∷ point (plus 1) (minus 3) ∷ point (plus 1) (plus 3) ∷ point (minus 2) (minus 2) ∷ []
+smallStar = point (aboveZero 3) (aboveZero 0) ∷ point (belowZero 2) (aboveZero 2) ∷ point (aboveZero 1) (belowZero 3) ∷ point (aboveZero 1) (aboveZero 3) ∷ point (belowZero 2) (belowZero 2) ∷ []
 
 -- a zigzag: turns of both signs
 abbrev pub zigzag : List Point2
-zigzag = point (plus 0) (plus 0) ∷ point (plus 300) (plus 100) ∷ point (plus 100) (plus 200) ∷ point (plus 300) (plus 300) ∷ point (plus 0) (plus 400) ∷ []
+zigzag = point (aboveZero 0) (aboveZero 0) ∷ point (aboveZero 300) (aboveZero 100) ∷ point (aboveZero 100) (aboveZero 200) ∷ point (aboveZero 300) (aboveZero 300) ∷ point (aboveZero 0) (aboveZero 400) ∷ []
 
 -- two sides without a north step
 abbrev pub square : List Point2
-square = point (plus 0) (plus 0) ∷ point (plus 0) (plus 100) ∷ point (plus 100) (plus 100) ∷ point (plus 100) (plus 0) ∷ []
+square = point (aboveZero 0) (aboveZero 0) ∷ point (aboveZero 0) (aboveZero 100) ∷ point (aboveZero 100) (aboveZero 100) ∷ point (aboveZero 100) (aboveZero 0) ∷ []
 
 -- a frame of five corners from 5 to 120 m, of kind 8 or of kind 2
 abbrev pub frameOf : Bool → List Point2 → List ℕ
-frameOf once l = fenceFrame once 5 (plus 5) (plus 120) l
+frameOf once l = fenceFrame once 5 (aboveZero 5) (aboveZero 120) l
 
 abbrev pub answer : List ℕ → FenceResult
 answer frame = fenceOf (readFence frame) .result

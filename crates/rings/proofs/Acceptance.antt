@@ -1,13 +1,13 @@
 -- What the tests of a polygon tell: its corners are Accepted. Assumes nothing.
 use mathlib.Core.Path.{_≡_, refl, sym, _∙_}
 use mathlib.Core.Bool.{Bool, true, false, not, _||_}
-use mathlib.Core.List.{List, [], _∷_}
+use mathlib.Core.List.{List, [], _∷_, foldl}
 use native.Mathlib.Omega.{arith}
 use Prim.Native.Nat.{ℕ}
 use lib.Ieee.{lt}
 use Rattle.rings.specs.Spelling.{All}
 use Rattle.rings.specs.Corner.{Accepted}
-use Rattle.corners.specs.Ring.{fold, any, tails}
+use Rattle.corners.specs.Ring.{anyMeets, tails}
 use Rattle.corners.specs.Acceptance.{recurs}
 use Rattle.float32.specs.Libm.{isFinite}
 use Rattle.float32.specs.Libm.{fabs}
@@ -22,7 +22,7 @@ never e h = let z : _≡_ {A = ℕ} 0 1 = cc in omega arith
 
 -- every one of the tests is passed where the first fault is none
 module _ {A : Type 0} (f : A → FenceResult) where
-  fault-stays : (e : FenceError) (l : List A) → fold (λ v a. resultAnd v (f a)) (FenceResult.Err e) l ≡ FenceResult.Err e
+  fault-stays : (e : FenceError) (l : List A) → foldl (λ v a. resultAnd v (f a)) (FenceResult.Err e) l ≡ FenceResult.Err e
   fault-stays e [] = refl
   fault-stays e (a ∷ l) = fault-stays e l
 
@@ -58,4 +58,4 @@ pub accepted : (once : Bool) (n : ℕ) (l : List Point2) → polygonFault once n
 unfolding polygonTests
 accepted once n l h =
     let t = first-ok (λ v. v) (polygonTests once n l) h in
-    record { finite = all-finite l (first-ok cornerFault l (t .1 .1 .0)); apart = no-fault (any recurs (tails l)) FenceError.DuplicateVertex (t .1 .1 .1 .0) }
+    record { finite = all-finite l (first-ok cornerFault l (t .1 .1 .0)); apart = no-fault (anyMeets recurs (tails l)) FenceError.DuplicateVertex (t .1 .1 .1 .0) }

@@ -2,11 +2,11 @@
 use mathlib.Core.Path.{_≡_, refl, sym, _∙_}
 use mathlib.Core.Bool.{Bool, true, false, _&&_, _||_, true≢false, false≢true, and-eq-true-iff}
 use mathlib.Core.Logic.{_⊎_, inl, inr}
-use mathlib.Core.List.{List, [], _∷_}
+use mathlib.Core.List.{List, [], _∷_, foldl}
 use lib.Ieee.{Float, nan, inf, fin, lt, eq}
 use Rattle.rings.specs.Spelling.{All, Ordered, Settled, Order}
 use Rattle.rings.specs.Corner.{before, Accepted}
-use Rattle.corners.specs.Ring.{fold, any, tails}
+use Rattle.corners.specs.Ring.{anyMeets, tails}
 use Rattle.float32.specs.Libm.{isFinite}
 use Rattle.corners.specs.Acceptance.{samePoint, recurs}
 use Rattle.types.specs.declared.Point2.{Point2}
@@ -92,24 +92,24 @@ ordered p q f g h = by (decide (lt (p .n) (q .n))) (decide (eq (p .n) (q .n))) (
 
 -- ---- accepted corners are settled
 module _ {A : Type 0} (f : A → Bool) where
-  any-true : (l : List A) → fold (λ b a. b || f a) true l ≡ true
+  any-true : (l : List A) → foldl (λ b a. b || f a) true l ≡ true
   any-true [] = refl
   any-true (a ∷ l) = any-true l
 
-  any-cons : (a : A) (l : List A) → any f (a ∷ l) ≡ false → (f a ≡ false) × (any f l ≡ false)
+  any-cons : (a : A) (l : List A) → anyMeets f (a ∷ l) ≡ false → (f a ≡ false) × (anyMeets f l ≡ false)
   any-cons a l h = by (f a) refl
     where
-      by : (b : Bool) → f a ≡ b → (f a ≡ false) × (any f l ≡ false)
+      by : (b : Bool) → f a ≡ b → (f a ≡ false) × (anyMeets f l ≡ false)
       by true e = absurd (true≢false (sym (any-true l) ∙ rw e at h))
       by false e = (e, rw e at h)
 
-settled-by : (l : List Point2) → All Finite l → any recurs (tails l) ≡ false → Settled before l
+settled-by : (l : List Point2) → All Finite l → anyMeets recurs (tails l) ≡ false → Settled before l
 settled-by [] f h = tt
 settled-by (p ∷ l) f h =
     let k = any-cons recurs (p, l) (tails l) h in
     (row l (f .1) (k .0), settled-by l (f .1) (k .1))
   where
-    row : (m : List Point2) → All Finite m → any (samePoint p) m ≡ false → All (Ordered before p) m
+    row : (m : List Point2) → All Finite m → anyMeets (samePoint p) m ≡ false → All (Ordered before p) m
     row [] g e = tt
     row (q ∷ m) g e =
         let k = any-cons (samePoint p) q m e in

@@ -11,7 +11,7 @@ use Rattle.rings.specs.Spelling.{All, spelled}
 use Rattle.types.specs.declared.Point2.{Point2}
 use Rattle.float32.specs.Binary32.{zeroF}
 use Rattle.float32.specs.Libm.{isFinite}
-use Rattle.corners.specs.Ring.{any, tails}
+use Rattle.corners.specs.Ring.{anyMeets, tails}
 use Rattle.corners.specs.Acceptance.{samePoint, recurs}
 use Rattle.geometry.specs.Polygon.{zeroPoint}
 use Rattle.rings.specs.declared.Corners.{Corners}
@@ -34,7 +34,7 @@ written l = spelled before (map plain l)
 -- of the tests that accept corners, the two that matter here: each is finite, and none is again among those after it
 pub record Accepted (l : List Point2) : Type 0 where
   pub finite : All (λ p. (isFinite (p .n) ≡ true) × (isFinite (p .e) ≡ true)) l
-  pub apart : any recurs (tails l) ≡ false
+  pub apart : anyMeets recurs (tails l) ≡ false
 
 -- the corners were read from bytes
 abbrev pub Read : List Point2 → Type 0

@@ -44,14 +44,15 @@ use Rattle.frame_telemetry.specs.TelemetryFrame.{telemetryAt, telemetryTests, t
 use Rattle.frame_decision.specs.DecisionFrame.{decisionFrame}
 use Rattle.flight.specs.Flight.{acceptFlight, refusedFlight, readFlight, stepFlight}
 use Rattle.frame_side.specs.SideFrame.{sideFrame}
-use Rattle.entries.specs.Entry.{stepAny, freshCall}
+use Rattle.calls.specs.Form.{Form, base, stateSize, formOf}
+use Rattle.calls.specs.Entry.{stepAny, freshCall}
 use Rattle.corners.specs.OnceRound.{northSign, signChanges}
 use Rattle.areas.specs.Held.{areaFault}
 use Rattle.areas.specs.Clearance.{clearance}
 use Rattle.frame_areas.specs.AreaFrame.{cornersSent as areaCorners, areaRules, distanceAt}
 use Rattle.frame_areas.specs.AreasFrame.{bodies, heldIn, bodiesFit, countsFit, areasFrameFault, areasFault, bodiesOf, areasFrame, clearanceAt}
-use Rattle.run.specs.Run.{Call, stateSize, stateBytes, Under, recordOfCalls, SameFlight}
-use Rattle.run.specs.Instances.{config, fence, slice, inFlight, blind, crane, stepOn, stepWithSide, stepWithCrane, calls, keeps, line, lineWithCrane, RunInstance}
+use Rattle.run.specs.Run.{Call, stateBytes, Under, recordOfCalls, SameFlight}
+use Rattle.run.specs.Instances.{config, fence, slice, inFlight, blind, crane, stepOn, stepWithSide, stepWithCrane, calls, form, line, lineWithCrane, RunInstance}
 use Rattle.run.proofs.Run.{one-flight-claim}
 
 -- ---- the telemetry is bytes
@@ -92,19 +93,19 @@ unfolding stepAny readFlight refusedFlight readConfig frameFault
 declines state = refl
 
 -- a call that steps, after others
-stepping-side : (t : Telemetry) (earlier : List Call) → below (telemetryFrame t) ≡ true → Under keeps slice (SameFlight (readFlight config fence)) earlier → Under keeps slice (SameFlight (readFlight config fence)) (stepWithSide t ∷ earlier)
+stepping-side : (t : Telemetry) (earlier : List Call) → below (telemetryFrame t) ≡ true → Under form slice (SameFlight (readFlight config fence)) earlier → Under form slice (SameFlight (readFlight config fence)) (stepWithSide t ∷ earlier)
 stepping-side t earlier b u = (tested (telemetryFrame t) b, (inr (refl, refl), u))
 
-stepping-crane : (t : Telemetry) (earlier : List Call) → below (telemetryFrame t) ≡ true → Under keeps slice (SameFlight (readFlight config fence)) earlier → Under keeps slice (SameFlight (readFlight config fence)) (stepWithCrane t ∷ earlier)
+stepping-crane : (t : Telemetry) (earlier : List Call) → below (telemetryFrame t) ≡ true → Under form slice (SameFlight (readFlight config fence)) earlier → Under form slice (SameFlight (readFlight config fence)) (stepWithCrane t ∷ earlier)
 stepping-crane t earlier b u = (tested (telemetryFrame t) b, (inr (refl, refl), u))
 
-stepping : (t : Telemetry) (earlier : List Call) → below (telemetryFrame t) ≡ true → Under keeps slice (SameFlight (readFlight config fence)) earlier → Under keeps slice (SameFlight (readFlight config fence)) (stepOn t ∷ earlier)
+stepping : (t : Telemetry) (earlier : List Call) → below (telemetryFrame t) ≡ true → Under form slice (SameFlight (readFlight config fence)) earlier → Under form slice (SameFlight (readFlight config fence)) (stepOn t ∷ earlier)
 stepping t earlier b u = (tested (telemetryFrame t) b, (inr (refl, refl), u))
 
-first-two : Under keeps slice (SameFlight (readFlight config fence)) (stepOn (inFlight 1000 true) ∷ stepOn (inFlight 0 false) ∷ [])
+first-two : Under form slice (SameFlight (readFlight config fence)) (stepOn (inFlight 1000 true) ∷ stepOn (inFlight 0 false) ∷ [])
 first-two = stepping (inFlight 1000 true) (stepOn (inFlight 0 false) ∷ []) (all-below .flight-1000) (stepping (inFlight 0 false) [] (all-below .flight-0) tt)
 
-under : Under keeps slice (SameFlight (readFlight config fence)) calls
+under : Under form slice (SameFlight (readFlight config fence)) calls
 under =
     stepping (blind 6100) _ (all-below .blind-6100)
     (stepping-side (inFlight 6060 true) _ (all-below .flight-6060)
@@ -117,9 +118,9 @@ under =
 
 record Computed : Type 0 where
   accepted : readFlight config fence .refused ≡ 0
-  kind : keeps ≡ false
+  kind : form ≡ base false
   record-is :
-      recordOfCalls keeps slice calls
+      recordOfCalls form slice calls
       ≡ line (blind 6100) Action.Land
       ∷ line (inFlight 6060 true) Action.Warn
       ∷ lineWithCrane (inFlight 6050 true) Action.Warn
@@ -130,12 +131,12 @@ record Computed : Type 0 where
       ∷ []
 
 computed : Computed
-unfolding add sub mul div neg lt le ofBits toBits ofInt round isNan config fence slice inFlight blind stateBytes recordOfCalls isFinite fabs isNegative fmax squareRoot setRequest higherRequest requestedAction altM horizontalDistHome wrappingSub age fresh holdMet cornerFault samePoint flatTurn cross2 mixedTurns areaTerm polygonArea polygonTests polygonNew geofenceNew sideLength edgeSignedDistanceBy signedDistance nearest nearestBy contains badCellCount badCapacity nonFiniteParam nonPositiveSpeed negativePower badThresholdOrder outsideDuration durationOutOfRange rtlAltOutsideFence checkConfig validateConfig defaultConfig rtlWh landWh rtlEnergyAt rtlEnergy withinPosition withinVelocity validatePositionSample validateGps validatePercent validateTelemetry freshBatteryPercent freshRemainingWh freshVoltage distanceBetween withinJump acceptSample applyGlitchFilter invalidInput stageRequest gcsStage gcsClearing gcsLink rcLink gps ekf fenceApproach fenceBreach altitudeMax altitudeMin fenceFamily staleBattery batteryWarn batteryLow batteryCritical battery energyMarginal energy heldSet holdPair raisedBy raisedOf freshTriggers families linkRequests fenceRequests batteryRequests requests nextTriggers update recover applyPersistence applyFeasibility arbitrate gateOpen holdFrom evaluate soundClock clockStep freshSupervisor sense decisionOf flown step u8At numberAt u16At u32At f32At flagAt byteBelow leBytes le8 le16 le32 leF32 leFlag frameHead frameFault frameWritten actionAt reasonAt leAction leReason zeros validOption optionU8At optionU32At leOptionU32 optionF32At vec3At leVec3 optionPositionAt leOptionPosition keepsRaised configAt readConfig freshnessCells linkCells fenceCells batteryCells energyCells flightCells configCells configFrame pointAt cornersAt cornerArray asksOnceRound fenceFault cornersSent readFence fenceRules fenceOf cornerCells sentCells fenceFrame timerAt triggersAt arbiterAt stateAt timersValid stateValid raisedRead raisedValid readState leTimer leLinks leFence leBattery leInput leTriggers leArbiter stateFrame fixAt landedAt optionGpsAt stampedF32At stampedBoolAt stampedLandedAt telemetryAt telemetryTests telemetryValid readTelemetry chargeCells statusCells telemetryCells telemetryFrame decisionFrame acceptFlight refusedFlight readFlight stepFlight stepAny sideFrame freshCall signChanges northSign areaFault areaCorners areaRules distanceAt bodies heldIn bodiesFit countsFit areasFrameFault areasFault bodiesOf areasFrame crane clearance clearanceAt
+unfolding add sub mul div neg lt le ofBits toBits ofInt round isNan config fence slice inFlight blind stateBytes recordOfCalls isFinite fabs isNegative fmax squareRoot setRequest higherRequest requestedAction altM horizontalDistHome wrappingSub age fresh holdMet cornerFault samePoint flatTurn cross2 mixedTurns areaTerm polygonArea polygonTests polygonNew geofenceNew sideLength edgeSignedDistanceBy signedDistance nearest nearestBy contains badCellCount badCapacity nonFiniteParam nonPositiveSpeed negativePower badThresholdOrder outsideDuration durationOutOfRange rtlAltOutsideFence checkConfig validateConfig defaultConfig rtlWh landWh rtlEnergyAt rtlEnergy withinPosition withinVelocity validatePositionSample validateGps validatePercent validateTelemetry freshBatteryPercent freshRemainingWh freshVoltage distanceBetween withinJump acceptSample applyGlitchFilter invalidInput stageRequest gcsStage gcsClearing gcsLink rcLink gps ekf fenceApproach fenceBreach altitudeMax altitudeMin fenceFamily staleBattery batteryWarn batteryLow batteryCritical battery energyMarginal energy heldSet holdPair raisedBy raisedOf freshTriggers families linkRequests fenceRequests batteryRequests requests nextTriggers update recover applyPersistence applyFeasibility arbitrate gateOpen holdFrom evaluate soundClock clockStep freshSupervisor sense decisionOf flown step u8At numberAt u16At u32At f32At flagAt byteBelow leBytes le8 le16 le32 leF32 leFlag frameHead frameFault frameWritten actionAt reasonAt leAction leReason zeros validOption optionU8At optionU32At leOptionU32 optionF32At vec3At leVec3 optionPositionAt leOptionPosition keepsRaised configAt readConfig freshnessCells linkCells fenceCells batteryCells energyCells flightCells configCells configFrame pointAt cornersAt cornerArray asksOnceRound fenceFault cornersSent readFence fenceRules fenceOf cornerCells sentCells fenceFrame timerAt triggersAt arbiterAt stateAt timersValid stateValid raisedRead raisedValid readState leTimer leLinks leFence leBattery leInput leTriggers leArbiter stateFrame fixAt landedAt optionGpsAt stampedF32At stampedBoolAt stampedLandedAt telemetryAt telemetryTests telemetryValid readTelemetry chargeCells statusCells telemetryCells telemetryFrame decisionFrame acceptFlight refusedFlight readFlight stepAny formOf sideFrame freshCall signChanges northSign areaFault areaCorners areaRules distanceAt bodies heldIn bodiesFit countsFit areasFrameFault areasFault bodiesOf areasFrame crane clearance clearanceAt
 computed = record { accepted = refl; kind = refl; record-is = refl }
 
-room : stateSize keeps ≤ length slice
+room : stateSize form ≤ length slice
 unfolding slice
-room = subst (λ (b : Bool). stateSize b ≤ length slice) (sym (computed .kind)) (lit≤ tt)
+room = subst (λ (g : Form). stateSize g ≤ length slice) (sym (computed .kind)) (lit≤ tt)
 
 pub run-instance : RunInstance
 run-instance =
@@ -144,5 +145,5 @@ run-instance =
       accepted = computed .accepted;
       under = under;
       record-is = computed .record-is;
-      obeys = one-flight-claim config fence (computed .accepted) slice room calls under;
+      obeys = one-flight-claim config fence (computed .accepted) form refl slice room calls under;
     }

@@ -27,8 +27,9 @@ use Rattle.frame_telemetry.specs.TelemetryFrame.{telemetryFrame}
 use Rattle.ladder.specs.Record.{Line}
 use Rattle.supervisor.specs.Settings.{Site, fenceSite, withAreas, fedAt}
 use Rattle.flight.specs.Flight.{readFlight}
-use Rattle.entries.specs.Entry.{flightKeeps}
-use Rattle.run.specs.Run.{Call, stateSize, Under, recordOfCalls, SameFlight, RunObeys}
+use Rattle.calls.specs.Form.{Form, base, stateSize}
+use Rattle.calls.specs.Entry.{flightKeeps}
+use Rattle.run.specs.Run.{Call, Under, recordOfCalls, SameFlight, RunObeys}
 
 -- the frames of the default configuration and fence; a state slice longer than a frame
 unfoldable pub config : List ℕ
@@ -115,9 +116,9 @@ calls =
     stepOn (inFlight 0 false) ∷
     []
 
--- the configuration is of kind 1
-abbrev pub keeps : Bool
-keeps = flightKeeps (readFlight config fence)
+-- the configuration is of kind 1, the state of kind 5
+abbrev pub form : Form
+form = base (flightKeeps (readFlight config fence))
 
 abbrev pub site : Site
 site = fenceSite (readFlight config fence .fence)
@@ -130,13 +131,13 @@ lineWithCrane t a = record { fed = fedAt (withAreas crane site) t; action = a }
 
 pub record RunInstance : Type 0 where
   -- the premises of the claim
-  pub room : stateSize keeps ≤ length slice
+  pub room : stateSize form ≤ length slice
   pub accepted : readFlight config fence .refused ≡ 0
-  pub under : Under keeps slice (SameFlight (readFlight config fence)) calls
+  pub under : Under form slice (SameFlight (readFlight config fence)) calls
   -- seven steps: the pilot's link is lost at 0 and back from 1000, so Nominal is wanted from then on and shown 5000 ms later; at 6050 a crane is up, for
   -- that step alone, and the warning stays at 6060; at 6100 all readings are lost
   pub record-is :
-      recordOfCalls keeps slice calls
+      recordOfCalls form slice calls
       ≡ line (blind 6100) Action.Land
       ∷ line (inFlight 6060 true) Action.Warn
       ∷ lineWithCrane (inFlight 6050 true) Action.Warn
@@ -146,4 +147,4 @@ pub record RunInstance : Type 0 where
       ∷ line (inFlight 0 false) Action.ReturnToLaunch
       ∷ []
   -- so the claim holds of it
-  pub obeys : RunObeys slice (readFlight config fence .cfg) calls
+  pub obeys : RunObeys form slice (readFlight config fence .cfg) calls

@@ -1,23 +1,21 @@
 -- Document 01, 'Run and record', about the bytes that the C host hands over. Lists have the latest call first. Assumes nothing.
-use Prim.Native.Nat.{ℕ, _+_, _≤_}
-use mathlib.Core.Bool.{Bool, cond}
+use Prim.Native.Nat.{ℕ, _≤_}
+use mathlib.Core.Bool.{Bool, false, cond}
 use mathlib.Core.List.{List, [], _∷_}
 use mathlib.Core.Logic.{_⊎_}
 use mathlib.Core.Path.{_≡_}
 use lib.Dec.{eqb}
 use lib.ListN.{length, take}
 use Rattle.types.specs.declared.Action.{Action}
-use Rattle.time.specs.Time.{wrapping}
 use Rattle.config.specs.declared.Config.{Config}
-use Rattle.supervisor.specs.Settings.{Fed, baseSettings, fenceSite, withAreas, fedAt}
+use Rattle.supervisor.specs.Settings.{Fed, fenceSite, withAreas, fedAt}
 use Rattle.wire.specs.Fields.{Bytes}
 use Rattle.options.specs.Enums.{actionAt}
 use Rattle.frame_state.specs.declared.StateRead.{StateRead}
-use Rattle.frame_state.specs.StateFrame.{stateLength, readState}
-use Rattle.frame_telemetry.specs.TelemetryFrame.{telemetryAt}
 use Rattle.flight.specs.declared.Flight.{Flight}
 use Rattle.flight.specs.Flight.{readFlight}
-use Rattle.entries.specs.Entry.{flightKeeps, StepCall, stepAny, freshCall}
+use Rattle.calls.specs.Form.{Form, base, wide, clockOf, stateSize, readStateOf, telemetryIn, settingsOf}
+use Rattle.calls.specs.Entry.{StepCall, stepAny, freshCall}
 use Rattle.ladder.specs.Record.{Line, stateAfter, stepsOf}
 use Rattle.ladder.specs.Claim.{ObeysAll}
 
@@ -43,18 +41,19 @@ abbrev pub flightOf : Call → Flight
 flightOf c = readFlight (c .config) (c .fence)
 
 -- "all it was fed but the state": its telemetry, its own fence and its own keep-out areas
-abbrev pub fedBy : Call → Fed
-fedBy c = fedAt (withAreas (c .areas) (fenceSite (flightOf c .fence))) (telemetryAt (c .telemetry))
+abbrev pub fedBy : Form → Call → Fed
+fedBy form c = fedAt (withAreas (c .areas) (fenceSite (flightOf c .fence))) (telemetryIn form (c .telemetry))
 
--- the bytes of a state frame: 186, or 194 where the flight's configuration is of kind 11
-abbrev pub stateSize : Bool → ℕ
-stateSize keeps = 2 + stateLength keeps
+-- the form goes with the configuration: kind 12 with kind 11, kinds 5 and 10 with kind 1
+abbrev pub Beside : Form → Config → Type 0
+Beside (base keeps) cfg = cfg .«keeps_raised» ≡ keeps
+Beside wide cfg = cfg .«keeps_raised» ≡ false
 
--- a run begins with the state slice that is handed to the fresh entry, of kind 12 where the configuration is of kind 11
-module _ (keeps : Bool) (slice : List ℕ) where
+-- a run begins with the state slice that is handed to the fresh entry of its form
+module _ (form : Form) (slice : List ℕ) where
   -- "Each call gets the state that the last one returned or, declining, left"; the first gets "the first 186 bytes" of what the fresh entry left
   unfoldable pub stateBytes : List Call → List ℕ
-  stateBytes [] = take (stateSize keeps) (freshCall keeps slice .state)
+  stateBytes [] = take (stateSize form) (freshCall form slice .state)
   stateBytes (c ∷ earlier) = on c (stateBytes earlier) .state
 
   -- a call after earlier ones: its number and buffers
@@ -77,31 +76,32 @@ module _ (keeps : Bool) (slice : List ℕ) where
   -- what the steps were fed
   unfoldable pub fed : List Call → List Fed
   fed [] = []
-  fed (c ∷ earlier) = cond (isStep c earlier) (fedBy c ∷ fed earlier) (fed earlier)
+  fed (c ∷ earlier) = cond (isStep c earlier) (fedBy form c ∷ fed earlier) (fed earlier)
 
   -- "The record holds, for each step, all it was fed but the state, and the action its Decision shows"
   unfoldable pub recordOfCalls : List Call → List Line
   recordOfCalls [] = []
   recordOfCalls (c ∷ earlier) =
       cond (isStep c earlier)
-      (record { fed = fedBy c; action = shownAction (answered c earlier .output) } ∷ recordOfCalls earlier)
+      (record { fed = fedBy form c; action = shownAction (answered c earlier .output) } ∷ recordOfCalls earlier)
       (recordOfCalls earlier)
 
 -- what holds of a run under a configuration
-pub record RunObeys (slice : List ℕ) (cfg : Config) (calls : List Call) : Type 0 where
+pub record RunObeys (form : Form) (slice : List ℕ) (cfg : Config) (calls : List Call) : Type 0 where
   -- the fresh entry answers 0
-  pub begun : freshCall (cfg .«keeps_raised») slice .number ≡ 0
+  pub begun : freshCall form slice .number ≡ 0
   -- demand 3, read off the record alone
-  pub ladder : ObeysAll wrapping (cfg .«recovery_hold_ms») (stepsOf (baseSettings cfg) (recordOfCalls (cfg .«keeps_raised») slice calls))
+  pub ladder : ObeysAll (clockOf form) (cfg .«recovery_hold_ms») (stepsOf (settingsOf form cfg) (recordOfCalls form slice calls))
   -- the state image is always accepted again: no run is declined for its own state
-  pub accepted : readState (cfg .«keeps_raised») (stateBytes (cfg .«keeps_raised») slice calls) ≡ StateRead.Frame (stateAfter (baseSettings cfg) (fed (cfg .«keeps_raised») slice calls))
+  pub accepted : readStateOf form (stateBytes form slice calls) ≡ StateRead.Frame (stateAfter (settingsOf form cfg) (fed form slice calls))
 
--- "for every list": every configuration, of kind 1 or 11, every state slice of at least a frame's bytes, every list of calls, each with its own fence and
--- areas, declined ones with any bytes among them
+-- "for every list": every form, every configuration that it goes with, every state slice of at least a frame's bytes, every list of calls, each with its own
+-- fence and areas, declined ones with any bytes among them
 abbrev pub RunClaim : Type 0
 RunClaim =
-    (cfg : Config) (slice : List ℕ) → stateSize (cfg .«keeps_raised») ≤ length slice
-    → (calls : List Call) → UnderConfig (cfg .«keeps_raised») slice cfg calls → RunObeys slice cfg calls
+    (form : Form) (cfg : Config) → Beside form cfg
+    → (slice : List ℕ) → stateSize form ≤ length slice
+    → (calls : List Call) → UnderConfig form slice cfg calls → RunObeys form slice cfg calls
 
 -- "under one accepted configuration and fence", by what is read and accepted: the bytes may differ
 abbrev pub SameFlight : Flight → Flight → Type 0
@@ -111,6 +111,7 @@ SameFlight g f = (f .cfg ≡ g .cfg) × (f .fence ≡ g .fence)
 abbrev pub OneFlightClaim : Type 0
 OneFlightClaim =
     (config fence : List ℕ) → readFlight config fence .refused ≡ 0
-    → (slice : List ℕ) → stateSize (flightKeeps (readFlight config fence)) ≤ length slice
-    → (calls : List Call) → Under (flightKeeps (readFlight config fence)) slice (SameFlight (readFlight config fence)) calls
-    → RunObeys slice (readFlight config fence .cfg) calls
+    → (form : Form) → Beside form (readFlight config fence .cfg)
+    → (slice : List ℕ) → stateSize form ≤ length slice
+    → (calls : List Call) → Under form slice (SameFlight (readFlight config fence)) calls
+    → RunObeys form slice (readFlight config fence .cfg) calls

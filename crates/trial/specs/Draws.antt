@@ -6,7 +6,7 @@ use lib.Dec.{eqb, ltb}
 use lib.Ieee.{Float, binary32, ofBits, ofInt}
 use lib.Ieee.Exact.{HasValue}
 use lib.IntN.{pos}
-use Rattle.float32.specs.Binary32.{minus, over}
+use Rattle.float32.specs.Binary32.{subF, divF}
 use Rattle.types.specs.declared.GpsFix.{GpsFix}
 use Rattle.types.specs.declared.LandedState.{LandedState}
 use Rattle.types.specs.Numbers.{fixOfNumber, landedOfNumber}
@@ -57,7 +57,7 @@ eight = ofBits binary32 0x4100_0000
 
 -- "A float is (draw div 65,536 − 32,768) ÷ 8."
 unfoldable pub floatOf : ℕ → Float
-floatOf draw = over (minus (ofInt binary32 (pos (draw / 65536))) middle) eight
+floatOf draw = divF (subF (ofInt binary32 (pos (draw / 65536))) middle) eight
 
 -- nothing is rounded: the float is that many eighths, negative below 32,768, and +0 at it
 unfoldable pub apart : ℕ → ℕ

@@ -13,7 +13,7 @@ use lib.IntN.{pos}
 use lib.ListN.{length, take, drop}
 use lib.Seq.{take-at}
 use borrow.Author.Tests.{ltb-true, ltb-false}
-use Rattle.float32.specs.Binary32.{minus}
+use Rattle.float32.specs.Binary32.{subF}
 use Rattle.types.specs.declared.GpsFix.{GpsFix}
 use Rattle.types.specs.declared.LandedState.{LandedState}
 use Rattle.types.specs.declared.OptionU8.{OptionU8}
@@ -59,7 +59,7 @@ byte-within draw h = omega arith
 
 float-fits : (draw : ℕ) → T (fits binary32 (floatOf draw))
 unfolding floatOf
-float-fits draw = div-fits binary32 (minus (ofInt binary32 (pos (draw / 65536))) middle) eight
+float-fits draw = div-fits binary32 (subF (ofInt binary32 (pos (draw / 65536))) middle) eight
 
 fix-within : (f : GpsFix) → fixNumber f < 2 ^ 8
 unfolding u8At byteBelow le8

@@ -1,6 +1,6 @@
 -- Filing requests one after the other, in any order. Assumes nothing.
 use mathlib.Core.Path.{_≡_}
-use mathlib.Core.List.{List, [], _∷_}
+use mathlib.Core.List.{List, [], _∷_, Perm}
 use Rattle.types.specs.declared.Request.{Request}
 use Rattle.types.specs.declared.ActiveSet.{ActiveSet}
 use Rattle.types.specs.ActiveSet.{setRequest, emptySet, requestedAction}
@@ -9,13 +9,6 @@ use Rattle.types.specs.ActiveSet.{setRequest, emptySet, requestedAction}
 abbrev pub filed : ActiveSet → List Request → ActiveSet
 filed s [] = s
 filed s (q ∷ qs) = filed (setRequest s (q .reason) (q .action)) qs
-
--- the same requests in another order
-pub data Reorder : List Request → List Request → Type 0 where
-  none : Reorder [] []
-  keep : {q : Request} {l m : List Request} → Reorder l m → Reorder (q ∷ l) (q ∷ m)
-  swap : {p q : Request} {l : List Request} → Reorder (p ∷ q ∷ l) (q ∷ p ∷ l)
-  then : {k l m : List Request} → Reorder k l → Reorder l m → Reorder k m
 
 -- no request of the list has the reason of q
 abbrev pub OtherReasons : Request → List Request → Type 0
@@ -29,4 +22,4 @@ OnePerReason (q ∷ l) = OtherReasons q l × OnePerReason l
 
 -- "for any two orders of the same requests `requested_action` answers alike"
 abbrev pub FilingOrderFree : Type 0
-FilingOrderFree = (l m : List Request) → Reorder l m → OnePerReason l → requestedAction (filed emptySet l .reqs) ≡ requestedAction (filed emptySet m .reqs)
+FilingOrderFree = (l m : List Request) → Perm l m → OnePerReason l → requestedAction (filed emptySet l .reqs) ≡ requestedAction (filed emptySet m .reqs)

@@ -350,7 +350,7 @@ pub struct Request {
     pub action: Action,
 }
 
-// Option<Request>. An absent one has the reason None and the action Nominal.
+// Option<Request>. Reason and action of an absent one are free; `no_request`, and so every set that a step gives, has None and Nominal.
 pub struct Slot {
     pub present: bool,
     pub reason: Reason,

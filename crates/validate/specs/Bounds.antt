@@ -1,7 +1,7 @@
 -- Document 01, 'validate': "Bounds as in the Rust; stale readings are checked too." Assumes nothing.
 use mathlib.Core.Bool.{Bool, true, false, not, _&&_, cond}
 use lib.Ieee.{Float, binary32, neg, lt, le, ofBits}
-use Rattle.float32.specs.Binary32.{plus, times, zeroF}
+use Rattle.float32.specs.Binary32.{addF, mulF, zeroF}
 use Rattle.float32.specs.Sqrt.{squareRoot}
 use Rattle.float32.specs.Libm.{isFinite, fabs}
 use Rattle.types.specs.declared.Vec3.{Vec3}
@@ -39,7 +39,7 @@ withinPosition p =
 unfoldable pub withinVelocity : Vec3 → Bool
 withinVelocity v =
     isFinite (v .n) && isFinite (v .e) && isFinite (v .d)
-    && not (lt hundred (squareRoot (plus (plus (times (v .n) (v .n)) (times (v .e) (v .e))) (times (v .d) (v .d)))))
+    && not (lt hundred (squareRoot (addF (addF (mulF (v .n) (v .n)) (mulF (v .e) (v .e))) (mulF (v .d) (v .d)))))
 
 unfoldable pub validatePositionSample : PositionSample → Bool
 validatePositionSample s = withinPosition (s .pos) && withinVelocity (s .vel)
@@ -58,7 +58,7 @@ validatePercent p = isFinite p && le zeroF p && le p hundred
 
 -- finite, from 0 to 1.1 times the capacity
 unfoldable pub validateRemaining : Float → Float → Bool
-validateRemaining r cap = isFinite r && le zeroF r && le r (times cap overfull)
+validateRemaining r cap = isFinite r && le zeroF r && le r (mulF cap overfull)
 
 -- an absent reading breaks no bound
 abbrev pub positionOk : OptionPositionSample → Bool

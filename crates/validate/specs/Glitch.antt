@@ -4,7 +4,7 @@ use mathlib.Core.Bool.{Bool, true, _||_, cond}
 use lib.Dec.{leb, ltb}
 use lib.IntN.{pos}
 use lib.Ieee.{Float, binary32, le, ofBits, ofInt}
-use Rattle.float32.specs.Binary32.{plus, minus, times, over, two}
+use Rattle.float32.specs.Binary32.{addF, subF, mulF, divF, two}
 use Rattle.float32.specs.Sqrt.{squareRoot}
 use Rattle.types.specs.declared.Vec3.{Vec3}
 use Rattle.types.specs.declared.OptionU32.{OptionU32}
@@ -27,16 +27,16 @@ noGlitch = record { «last_accepted» = OptionPositionSample.None; «reject_stre
 
 unfoldable pub distanceBetween : Vec3 → Vec3 → Float
 distanceBetween a b =
-    let dn = minus (a .n) (b .n) in
-    let de = minus (a .e) (b .e) in
-    let dd = minus (a .d) (b .d) in
-    squareRoot (plus (plus (times dn dn) (times de de)) (times dd dd))
+    let dn = subF (a .n) (b .n) in
+    let de = subF (a .e) (b .e) in
+    let dd = subF (a .d) (b .d) in
+    squareRoot (addF (addF (mulF dn dn) (mulF de de)) (mulF dd dd))
 
 -- "distance at most v_max × seconds × 2 + 5"
 unfoldable pub withinJump : Float → ℕ → Float → Bool
 withinJump dist gap vMax =
-    let seconds = over (ofInt binary32 (pos gap)) thousand in
-    le dist (plus (times (times vMax seconds) two) five)
+    let seconds = divF (ofInt binary32 (pos gap)) thousand in
+    le dist (addF (mulF (mulF vMax seconds) two) five)
 
 -- "Seconds run from the stored stamp to now": by the stored sample's age
 abbrev pub acceptAfter : OptionU32 → PositionSample → PositionSample → Float → Bool

@@ -3,16 +3,16 @@ use mathlib.Core.Path.{_≡_}
 use mathlib.Core.Bool.{true}
 use mathlib.Core.List.{List}
 use Prim.Native.Nat.{ℕ}
-use lib.IntN.{pos}
+use lib.IntN.{pos, negℤ}
 use Rattle.wire.proofs.Whole.{each}
-use Rattle.whole_energy.specs.Input.{i32At, inputOf, within, minus, limitTests, withinLimits}
+use Rattle.whole_energy.specs.Input.{i32At, inputOf, within, limitTests, withinLimits}
 
 pub record Limits (s : List ℕ) : Type 0 where
-  pub north : within (minus 10000000) (pos 10000000) (i32At s 0) ≡ true
-  pub east : within (minus 10000000) (pos 10000000) (i32At s 4) ≡ true
-  pub homeNorth : within (minus 10000000) (pos 10000000) (i32At s 12) ≡ true
-  pub homeEast : within (minus 10000000) (pos 10000000) (i32At s 16) ≡ true
-  pub altitude : within (minus 100000) (pos 2000000) (i32At s 8) ≡ true
+  pub north : within (negℤ (pos 10000000)) (pos 10000000) (i32At s 0) ≡ true
+  pub east : within (negℤ (pos 10000000)) (pos 10000000) (i32At s 4) ≡ true
+  pub homeNorth : within (negℤ (pos 10000000)) (pos 10000000) (i32At s 12) ≡ true
+  pub homeEast : within (negℤ (pos 10000000)) (pos 10000000) (i32At s 16) ≡ true
+  pub altitude : within (negℤ (pos 100000)) (pos 2000000) (i32At s 8) ≡ true
   pub returnAltitude : within (pos 0) (pos 2000000) (i32At s 20) ≡ true
   pub powerClimb : within (pos 0) (pos 10000000) (i32At s 24) ≡ true
   pub powerCruise : within (pos 0) (pos 10000000) (i32At s 28) ≡ true

@@ -4,10 +4,10 @@ use mathlib.Core.Bool.{Bool, true, false, not, cond, _&&_, _||_, true≢false, f
 use Prim.Native.Nat.{ℕ, zero, suc, _+_, _-_, _%_, _^_, _≤_, _<_}
 use native.Mathlib.Omega.{arith}
 use lib.Dec.{T, leb, leb→le, nleb→lt, ltb, ltb→lt, nltb→le, eqb, eqb→eq}
-use lib.IntN.{ℤ, pos, negsuc, subℕ, _-ℤ_, natAbs}
+use lib.IntN.{ℤ, pos, negsuc, negℤ, subℕ, _-ℤ_, natAbs}
 use lib.Signed.{leZ}
 use Rattle.wire.proofs.Whole.{first, second}
-use Rattle.whole_energy.specs.Input.{signed, within, minus, isZero, fromZero, larger}
+use Rattle.whole_energy.specs.Input.{signed, within, isZero, fromZero, larger}
 
 -- two tests that hold alike
 alike : (a b c d : ℕ) → (a ≤ b → c ≤ d) → (c ≤ d → a ≤ b) → leb a b ≡ leb c d
@@ -50,11 +50,11 @@ and-true true = refl
 and-true false = refl
 
 -- ---- the test
-pub within-counted : (n l h : ℕ) → n < 2 ^ 32 → l ≤ 10000000 → h ≤ 10000000 → within (minus l) (pos h) (signed n) ≡ leb ((n + l) % 2 ^ 32) (l + h)
+pub within-counted : (n l h : ℕ) → n < 2 ^ 32 → l ≤ 10000000 → h ≤ 10000000 → within (negℤ (pos l)) (pos h) (signed n) ≡ leb ((n + l) % 2 ^ 32) (l + h)
 unfolding signed
 within-counted n l h f i j = go (ltb n (2 ^ 31)) (ltb→lt n (2 ^ 31)) (nltb→le n (2 ^ 31)) l i
   where
-    go : (b : Bool) → (T b → n < 2 ^ 31) → (T (not b) → 2 ^ 31 ≤ n) → (l : ℕ) → l ≤ 10000000 → within (minus l) (pos h) (cond b (pos n) (negsuc (2 ^ 32 - 1 - n))) ≡ leb ((n + l) % 2 ^ 32) (l + h)
+    go : (b : Bool) → (T b → n < 2 ^ 31) → (T (not b) → 2 ^ 31 ≤ n) → (l : ℕ) → l ≤ 10000000 → within (negℤ (pos l)) (pos h) (cond b (pos n) (negsuc (2 ^ 32 - 1 - n))) ≡ leb ((n + l) % 2 ^ 32) (l + h)
     go true p q zero i = let k = p tt in ap (λ (t : Bool). t && leb n h) (yes 0 n (omega arith)) ∙ alike n h ((n + 0) % 2 ^ 32) (0 + h) (λ a. omega arith) (λ a. omega arith)
     go true p q (suc l) i = let k = p tt in alike n h ((n + suc l) % 2 ^ 32) (suc l + h) (λ a. omega arith) (λ a. omega arith)
     go false p q zero i = let k = q tt in sym (no ((n + 0) % 2 ^ 32) (0 + h) (omega arith))
@@ -138,7 +138,7 @@ zero-by-bits n f = go (ltb n (2 ^ 31)) (nltb→le n (2 ^ 31))
             clash e k = omega arith
 
 -- ---- what a test that holds tells
-pub within-known : (n l h : ℕ) → n < 2 ^ 32 → l ≤ 10000000 → h ≤ 10000000 → within (minus l) (pos h) (signed n) ≡ true → ((n + l) % 2 ^ 32 ≤ l + h) × Counted l (signed n) ((n + l) % 2 ^ 32)
+pub within-known : (n l h : ℕ) → n < 2 ^ 32 → l ≤ 10000000 → h ≤ 10000000 → within (negℤ (pos l)) (pos h) (signed n) ≡ true → ((n + l) % 2 ^ 32 ≤ l + h) × Counted l (signed n) ((n + l) % 2 ^ 32)
 within-known n l h f i j e =
     let k : (n + l) % 2 ^ 32 ≤ l + h = leb→le _ _ (subst T (sym (sym (within-counted n l h f i j) ∙ e)) tt) in
     (k, counted n l h f i j k)

@@ -56,19 +56,15 @@ inputOf s =
 abbrev pub within : ℤ → ℤ → ℤ → Bool
 within low high z = leZ low z && leZ z high
 
--- minus n
-abbrev pub minus : ℕ → ℤ
-minus n = negℤ (pos n)
-
 -- "North and east of position and home lie within ±10,000,000, altitude from −100,000 to 2,000,000, return altitude from 0 to 2,000,000, powers from 0 to 10,000,000, wind from
 -- 0 to 10,000, speeds from 0 to 100,000."
 abbrev pub limitTests : Input → List Bool
 limitTests i =
-    within (minus 10000000) (pos 10000000) (i .north)
-    ∷ within (minus 10000000) (pos 10000000) (i .east)
-    ∷ within (minus 10000000) (pos 10000000) (i .homeNorth)
-    ∷ within (minus 10000000) (pos 10000000) (i .homeEast)
-    ∷ within (minus 100000) (pos 2000000) (i .altitude)
+    within (negℤ (pos 10000000)) (pos 10000000) (i .north)
+    ∷ within (negℤ (pos 10000000)) (pos 10000000) (i .east)
+    ∷ within (negℤ (pos 10000000)) (pos 10000000) (i .homeNorth)
+    ∷ within (negℤ (pos 10000000)) (pos 10000000) (i .homeEast)
+    ∷ within (negℤ (pos 100000)) (pos 2000000) (i .altitude)
     ∷ within (pos 0) (pos 2000000) (i .returnAltitude)
     ∷ within (pos 0) (pos 10000000) (i .powerClimb)
     ∷ within (pos 0) (pos 10000000) (i .powerCruise)

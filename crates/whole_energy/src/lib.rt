@@ -3,12 +3,12 @@
 ghost use mathlib.Core.Path.{_≡_};
 ghost use mathlib.Core.Bool.{true, false};
 ghost use Prim.Native.Nat.{_+_, _%_, _^_, _≤_, _<_};
-ghost use lib.IntN.{pos, _-ℤ_, natAbs};
+ghost use lib.IntN.{pos, negℤ, _-ℤ_, natAbs};
 ghost use lib.Signed.{leZ};
 ghost use lib.Seq.{sets};
 ghost use Rattle.wire.specs.Fields.{u32At};
 ghost use Rattle.whole_energy.specs.Root.{wholeRoot, WholeRoot};
-ghost use Rattle.whole_energy.specs.Input.{i32At, inputOf, within, minus, withinLimits, speedOfZero, fromZero, larger, squared, returnOf};
+ghost use Rattle.whole_energy.specs.Input.{i32At, inputOf, within, withinLimits, speedOfZero, fromZero, larger, squared, returnOf};
 ghost use Rattle.whole_energy.specs.Energy.{Bounded, oneFor, leg, roundedUp, estimateOf};
 ghost use Rattle.whole_energy.specs.Call.{le64, legBytes, estimateBytes, energyCall};
 
@@ -72,7 +72,7 @@ fn counted(s: &[u8], at: usize, below: u32) -> u32
 // Whether the number at `at` lies from -below to above.
 fn number_within(s: &[u8], at: usize, below: u32, above: u32) -> bool
     requires { ⌜ (below ≤ 10000000) × (above ≤ 10000000) ⌝ }
-    ensures { λ r. ⌜ r ≡ within (minus below) (pos above) (i32At (now (s .entry)) at) ⌝ }
+    ensures { λ r. ⌜ r ≡ within (negℤ (pos below)) (pos above) (i32At (now (s .entry)) at) ⌝ }
 {
     let n = counted(s, at, below);
     n <= below + above
@@ -116,7 +116,7 @@ fn speed_of_zero(s: &[u8]) -> bool
 
 // How far apart two numbers within 10,000,000 of 0 are.
 fn apart(s: &[u8], i: usize, j: usize) -> u64
-    requires { ⌜ (within (minus 10000000) (pos 10000000) (i32At (now s) i) ≡ true) × (within (minus 10000000) (pos 10000000) (i32At (now s) j) ≡ true) ⌝ }
+    requires { ⌜ (within (negℤ (pos 10000000)) (pos 10000000) (i32At (now s) i) ≡ true) × (within (negℤ (pos 10000000)) (pos 10000000) (i32At (now s) j) ≡ true) ⌝ }
     ensures { λ r. ⌜ (r ≡ natAbs (i32At (now (s .entry)) i -ℤ i32At (now (s .entry)) j)) × (r ≤ 20000000) ⌝ }
 {
     let a = counted(s, i, 10_000_000);

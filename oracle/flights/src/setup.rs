@@ -94,6 +94,19 @@ impl Setup {
         Self::of(cfg, fence_frame(5.0, 120.0, &SQUARE)).expect("an accepted configuration")
     }
 
+    /// The same with some durations of 2^31 and beyond, where no rule looks.
+    pub fn with_long_durations(&self, random: &mut Random) -> Self {
+        let mut frame = self.config;
+        for field in FREE_DURATIONS {
+            if random.chance(5) {
+                let long = [1 << 31, u32::MAX, u32::MAX - 1, (1 << 31) - 1, random.u32()];
+                put(&mut frame, field, random.one_of(&long));
+            }
+        }
+        let cfg = read_frame(CONFIG, &frame).expect("a configuration frame");
+        Self::of(&cfg, self.fence.clone()).expect("no rule looks at these")
+    }
+
     /// Any that is accepted: the defaults, shorter or longer holds, odd values where no rule looks.
     pub fn random(random: &mut Random) -> Self {
         loop {

@@ -182,7 +182,7 @@ pub fn remove_area_entry(areas: &[u8], number: u8, output: &mut [u8]) -> u32 {
 // ---- a step
 
 /// A fence far beyond every position, or none of whose sides is there, as the clearance is at least 0 or below it.
-fn stand_in_fence(fence: &rust::Geofence, clearance: f32) -> rust::Geofence {
+pub(crate) fn stand_in_fence(fence: &rust::Geofence, clearance: f32) -> rust::Geofence {
     const FAR: f32 = 1e6;
     let mut poly = fence.poly;
     let square = [(-FAR, -FAR), (FAR, -FAR), (FAR, FAR), (-FAR, FAR)];
@@ -194,7 +194,7 @@ fn stand_in_fence(fence: &rust::Geofence, clearance: f32) -> rust::Geofence {
 }
 
 /// The limits that the Rust compares the distance with, put beyond every distance on the side where the clearance has them.
-fn stand_in_config(cfg: &rust::Config, clearance: f32) -> rust::Config {
+pub(crate) fn stand_in_config(cfg: &rust::Config, clearance: f32) -> rust::Config {
     let beyond = |above: bool| {
         if above {
             f32::INFINITY

@@ -58,6 +58,18 @@ impl Field for u32 {
     }
 }
 
+impl Field for u64 {
+    const WIDTH: usize = 8;
+    #[inline]
+    fn read(from: &[u8]) -> Option<Self> {
+        from.first_chunk().copied().map(u64::from_le_bytes)
+    }
+    #[inline]
+    fn write(&self, to: &mut [u8]) {
+        to[..8].copy_from_slice(&self.to_le_bytes());
+    }
+}
+
 impl Field for f32 {
     const WIDTH: usize = 4;
     #[inline]

@@ -1,4 +1,4 @@
-//! The bodies of kinds 1 to 4, 8 and 255 (areas.rs has 7 and 13). Fields stand in the Rust's declared order.
+//! The bodies of kinds 1 to 4, 8, 9 and 255 (areas.rs has 7 and 13). Fields stand in the Rust's declared order.
 
 use crate::bytes::{Field, NO_ROOM, body, numbered, put_frame, record};
 
@@ -10,9 +10,9 @@ pub const DECISION: u16 = 4;
 pub const STATE: u16 = 5;
 pub const REFUSAL: u16 = 255;
 
-/// `Field` for the types of one build of the Rust.
+/// `Field` for the types of one build of the Rust, whose instants are of this type.
 macro_rules! codec {
-    ($rust:ident) => {
+    ($rust:ident, $instant:ident) => {
         record!($rust::Config {
             cell_count: u8,
             usable_capacity_wh: f32,
@@ -79,30 +79,30 @@ macro_rules! codec {
         });
         record!($rust::Vec3 { n: f32, e: f32, d: f32, });
         record!($rust::PositionSample {
-            t_ms: u32,
+            t_ms: $instant,
             pos: $rust::Vec3,
             vel: $rust::Vec3,
         });
         numbered!($rust::GpsFix { 0 None, 1 Fix2D, 2 Fix3D, });
         record!($rust::GpsSample {
-            t_ms: u32,
+            t_ms: $instant,
             fix: $rust::GpsFix,
             sats: Option<u8>,
             hdop: Option<f32>,
         });
         impl<T: Field> Field for $rust::Stamped<T> {
-            const WIDTH: usize = 4 + T::WIDTH;
+            const WIDTH: usize = $instant::WIDTH + T::WIDTH;
             #[inline]
             fn read(from: &[u8]) -> Option<Self> {
                 Some(Self {
-                    t_ms: u32::read(from)?,
-                    value: T::read(&from[4..])?,
+                    t_ms: $instant::read(from)?,
+                    value: T::read(&from[$instant::WIDTH..])?,
                 })
             }
             #[inline]
             fn write(&self, to: &mut [u8]) {
                 self.t_ms.write(to);
-                self.value.write(&mut to[4..]);
+                self.value.write(&mut to[$instant::WIDTH..]);
             }
         }
         record!($rust::BatteryInputs {
@@ -114,11 +114,11 @@ macro_rules! codec {
             0 Undefined, 1 OnGround, 2 InAir, 3 Takeoff, 4 Landing,
         });
         record!($rust::Telemetry {
-            now_ms: u32,
+            now_ms: $instant,
             position: Option<$rust::PositionSample>,
             gps: Option<$rust::GpsSample>,
             battery: $rust::BatteryInputs,
-            gcs_heartbeat_ms: Option<u32>,
+            gcs_heartbeat_ms: Option<$instant>,
             armed: Option<$rust::Stamped<bool>>,
             landed: Option<$rust::Stamped<$rust::LandedState>>,
             rc_ok: Option<$rust::Stamped<bool>>,
@@ -159,8 +159,9 @@ macro_rules! codec {
         });
     };
 }
-codec!(failsafe_core);
-codec!(failsafe_open);
+codec!(failsafe_core, u32);
+codec!(failsafe_open, u32);
+codec!(failsafe_wide, u64);
 
 /// Corners as sent. Where the count is above 16, only the first sixteen are kept: the count decides.
 #[derive(Clone, Copy, Debug, PartialEq)]

@@ -116,7 +116,11 @@ fn keeps(config: &[u8]) -> bool {
 
 /// Configuration frame, fence frame, fence rules, configuration rules.
 #[inline(always)]
-fn flight(kind: u16, config: &[u8], fence: &[u8]) -> Result<(rust::Config, rust::Geofence), u32> {
+pub(crate) fn flight(
+    kind: u16,
+    config: &[u8],
+    fence: &[u8],
+) -> Result<(rust::Config, rust::Geofence), u32> {
     let cfg: rust::Config = read_frame(kind, config)?;
     let sent = read_fence(fence)?;
     let fence = fence_open(&sent)?;

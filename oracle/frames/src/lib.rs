@@ -1,16 +1,19 @@
-//! The frames of document 01, and of document 02's sides, areas and raised requests, in plain Rust, over the Rust's own types, with nothing
-//! on the heap; and the entries over them, to hold the port's entries to.
+//! The frames of document 01, and of document 02's sides, areas, raised requests and 64-bit instants, in plain Rust, over the Rust's own
+//! types, with nothing on the heap (but for 64-bit instants); and the entries over them, to hold the port's entries to.
 //!
-//! The frames are there for both builds of the Rust: failsafe-core, which is the source as it is, and
-//! failsafe-open, the same source with its fields public, without which no state can be read or written.
+//! The frames are there for the builds of the Rust: failsafe-core, which is the source as it is;
+//! failsafe-open, the same source with its fields public, without which no state can be read or written; and
+//! failsafe-wide, the open one with its instants in 64 bits (oracle/run.sh makes them).
 
 mod areas;
 mod bytes;
 mod codec;
 mod entry;
+pub mod places;
 mod raised;
 mod side;
 mod state;
+mod wide;
 
 pub use areas::{
     AREA, AREA_SIDE, AREAS, AREAS_HELD, Areas, Clearance, add_area_entry, read_areas,
@@ -33,7 +36,8 @@ pub use raised::{
     fresh_raised_entry, held_by_pairs, pairs, raised_by, step_raised,
 };
 pub use side::{DECISION_SIDE, put_side, side_of};
-pub use state::State;
+pub use state::{State, WideState};
+pub use wide::{STATE_WIDE, TELEMETRY_WIDE, fresh_wide_entry, step_any, widen_entry};
 
 /// Bytes of whole frames.
 pub const CONFIG_FRAME: usize = 246;
@@ -42,4 +46,6 @@ pub const DECISION_FRAME: usize = 95;
 pub const SIDE_FRAME: usize = 96;
 pub const STATE_FRAME: usize = 186;
 pub const RAISED_STATE_FRAME: usize = 194;
+pub const WIDE_TELEMETRY_FRAME: usize = 150;
+pub const WIDE_STATE_FRAME: usize = 306;
 pub const REFUSAL_FRAME: usize = 6;

@@ -19,12 +19,18 @@ fn edge_signed_distance(a: rust::Point2, b: rust::Point2, p: rust::Point2) -> f3
 
 /// The first side, in held order, whose distance is the Decision's; 255 without a distance below infinity.
 pub fn side_of(fence: &rust::Geofence, raw: &rust::Telemetry, decision: &rust::Decision) -> u8 {
-    let (Some(dist), Some(sample)) = (decision.fence_dist_m, raw.position) else {
-        return 255;
-    };
-    let p = rust::Point2 {
+    let place = raw.position.map(|sample| rust::Point2 {
         n: sample.pos.n,
         e: sample.pos.e,
+    });
+    side_at(fence, place, decision.fence_dist_m)
+}
+
+/// The same of a place and the distance there.
+#[inline]
+pub fn side_at(fence: &rust::Geofence, place: Option<rust::Point2>, dist: Option<f32>) -> u8 {
+    let (Some(dist), Some(p)) = (dist, place) else {
+        return 255;
     };
     let n = fence.poly.len();
     let side = (0..n).find(|&i| {

@@ -4,6 +4,7 @@
 
 mod config;
 mod energy;
+mod gate;
 mod leaves;
 mod polygons;
 mod rows;
@@ -23,6 +24,7 @@ fn main() -> std::io::Result<()> {
     polygons::add(&mut rows, &mut random);
     config::add(&mut rows, &mut random);
     energy::add(&mut rows, &mut random);
+    gate::add(&mut rows, &mut random);
     rows.report();
     rows.write(std::path::Path::new(&folder))
 }

@@ -25,6 +25,8 @@ pub enum Asks {
     DefaultFence = 0x21,
     Validate = 0x22,
     Energy = 0x30,
+    Evaluate = 0x31,
+    Reset = 0x32,
 }
 
 /// More words than these a row never has, and an answer neither.

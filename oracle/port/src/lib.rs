@@ -5,6 +5,8 @@ mod sides;
 #[cfg(feature = "standin")]
 mod slips;
 #[cfg(feature = "standin")]
+mod slips_wide;
+#[cfg(feature = "standin")]
 mod standin;
 
 pub use sides::{Call, Entry, Sides};
@@ -73,6 +75,14 @@ unsafe extern "C" {
     ) -> u32;
     fn failsafe_fresh(state: *mut u8, state_len: usize) -> u32;
     fn failsafe_fresh_raised(state: *mut u8, state_len: usize) -> u32;
+    fn failsafe_fresh_wide(state: *mut u8, state_len: usize) -> u32;
+    fn failsafe_widen(
+        old: *const u8,
+        old_len: usize,
+        last_now: u64,
+        new: *mut u8,
+        new_len: usize,
+    ) -> u32;
     #[cfg(not(feature = "standin"))]
     fn failsafe_check(
         config: *const u8,
@@ -226,6 +236,24 @@ pub fn fresh_raised(state: &mut [u8]) -> u32 {
     unsafe { failsafe_fresh_raised(state.as_mut_ptr(), state.len()) }
 }
 
+pub fn fresh_wide(state: &mut [u8]) -> u32 {
+    // SAFETY: a slice that is alive.
+    unsafe { failsafe_fresh_wide(state.as_mut_ptr(), state.len()) }
+}
+
+pub fn widen(old: &[u8], last_now: u64, new: &mut [u8]) -> u32 {
+    // SAFETY: two slices that are alive and do not overlap.
+    unsafe {
+        failsafe_widen(
+            old.as_ptr(),
+            old.len(),
+            last_now,
+            new.as_mut_ptr(),
+            new.len(),
+        )
+    }
+}
+
 /// A step by one of the three entries. The stand-in has slips of kind 11's rule.
 #[cfg(not(feature = "standin"))]
 pub fn step_raised(
@@ -246,6 +274,13 @@ pub fn step_raised(
 
 #[cfg(feature = "standin")]
 pub use standin::step_raised;
+
+/// A step by one of the three entries. The stand-in has slips of the 64-bit clock.
+#[cfg(not(feature = "standin"))]
+pub use step_raised as step_wide;
+
+#[cfg(feature = "standin")]
+pub use standin::step_wide;
 
 /// What `failsafe_merge` answers; the stand-in has no such entry.
 #[cfg(not(feature = "standin"))]

@@ -1,8 +1,8 @@
 //! Buffers, each with room around it that nobody may touch, and the plain Rust's and the port's calls on equal ones.
 
 use frames::{
-    Form, add_area_entry, fresh_entry, fresh_raised_entry, remove_area_entry, step_areas_entry,
-    step_by, step_entry, step_side_entry,
+    Form, add_area_entry, fresh_entry, fresh_raised_entry, fresh_wide_entry, remove_area_entry,
+    step_any, step_areas_entry, step_entry, step_side_entry, widen_entry,
 };
 
 /// Bytes before and after each buffer.
@@ -176,16 +176,7 @@ impl Sides {
             given,
             |[c, f, s, t, o, a]| {
                 let (c, f, t) = (c.used(), f.used(), t.used());
-                let form = entry.form(a.used());
-                step_by(
-                    frames::step_raised,
-                    form,
-                    c,
-                    f,
-                    s.used_mut(),
-                    t,
-                    o.used_mut(),
-                )
+                step_any(entry.form(a.used()), c, f, s.used_mut(), t, o.used_mut())
             },
             |[c, f, s, t, o, a]| {
                 let (c, f, t, a) = (c.used(), f.used(), t.used(), a.used());
@@ -194,6 +185,55 @@ impl Sides {
         )?;
         call.state.copy_from_slice(self.rust[2].used());
         call.output.copy_from_slice(self.rust[4].used());
+        Ok(number)
+    }
+
+    /// The same with states and telemetry of all kinds, where the stand-in has slips of the 64-bit clock.
+    pub fn step_wide(&mut self, call: &mut Call) -> Result<u32, String> {
+        let entry = call.entry;
+        let given: [(&str, &[u8]); 6] = [
+            ("configuration", &call.config),
+            ("fence", &call.fence),
+            ("state", &call.state),
+            ("telemetry", &call.telemetry),
+            ("output", &call.output),
+            ("areas", &call.areas),
+        ];
+        let number = self.beside(
+            given,
+            |[c, f, s, t, o, a]| {
+                let (c, f, t) = (c.used(), f.used(), t.used());
+                step_any(entry.form(a.used()), c, f, s.used_mut(), t, o.used_mut())
+            },
+            |[c, f, s, t, o, a]| {
+                let (c, f, t, a) = (c.used(), f.used(), t.used(), a.used());
+                crate::step_wide(entry, c, f, s.used_mut(), t, o.used_mut(), a)
+            },
+        )?;
+        call.state.copy_from_slice(self.rust[2].used());
+        call.output.copy_from_slice(self.rust[4].used());
+        Ok(number)
+    }
+
+    pub fn fresh_wide(&mut self, state: &mut [u8]) -> Result<u32, String> {
+        let number = self.beside(
+            [("fresh state of kind 10", state)],
+            |[s]| fresh_wide_entry(s.used_mut()),
+            |[s]| crate::fresh_wide(s.used_mut()),
+        )?;
+        state.copy_from_slice(self.rust[0].used());
+        Ok(number)
+    }
+
+    /// A state of kind 5 carried over to the 64-bit clock, which reads `last_now`.
+    pub fn widen(&mut self, old: &[u8], last_now: u64, new: &mut [u8]) -> Result<u32, String> {
+        let number = self.beside(
+            [("old state", old), ("new state", new)],
+            |[o, n]| widen_entry(o.used(), last_now, n.used_mut()),
+            |[o, n]| crate::widen(o.used(), last_now, n.used_mut()),
+        );
+        let number = number.map_err(|told| format!("last_now: {last_now}\n{told}"))?;
+        new.copy_from_slice(self.rust[1].used());
         Ok(number)
     }
 

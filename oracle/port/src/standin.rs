@@ -4,7 +4,7 @@
 use std::slice::{from_raw_parts, from_raw_parts_mut};
 use std::sync::OnceLock;
 
-use crate::{Entry, slips};
+use crate::{Entry, slips, slips_wide};
 
 fn fault() -> u32 {
     static FAULT: OnceLock<u32> = OnceLock::new();
@@ -248,6 +248,9 @@ pub fn step_raised(
     let slipping =
         |supervisor: &mut _, raised: &mut _, raw: &_| slips::step(slip, supervisor, raised, raw);
     let form = entry.form(areas);
+    if !keeping && state.get(2..4) == Some(&frames::STATE_WIDE.to_le_bytes()) {
+        return frames::step_any(form, config, fence, state, telemetry, output);
+    }
     let number = frames::step_by(slipping, form, config, fence, state, telemetry, output);
     match fault() {
         // A state of kind 5 is judged by its length first.
@@ -294,4 +297,51 @@ extern "C" fn failsafe_fresh_raised(state: *mut u8, state_len: usize) -> u32 {
         state[194] = 0;
     }
     number
+}
+
+/// A step by one of the three entries, with a slip of the 64-bit clock or a fault of its frames.
+pub fn step_wide(
+    entry: Entry,
+    config: &[u8],
+    fence: &[u8],
+    state: &mut [u8],
+    telemetry: &[u8],
+    output: &mut [u8],
+    areas: &[u8],
+) -> u32 {
+    let form = entry.form(areas);
+    slips_wide::step(fault(), form, config, fence, state, telemetry, output)
+}
+
+#[unsafe(no_mangle)]
+extern "C" fn failsafe_fresh_wide(state: *mut u8, state_len: usize) -> u32 {
+    // SAFETY: the driver hands over a slice that is alive.
+    let state = unsafe { from_raw_parts_mut(state, state_len) };
+    let number = frames::fresh_wide_entry(state);
+    match fault() {
+        // A state that only has room for kind 5.
+        70 if (186..306).contains(&state_len) => return 0,
+        // A byte after the state.
+        71 if number == 0 && state_len > 306 => state[306] = 0,
+        _ => {}
+    }
+    number
+}
+
+#[unsafe(no_mangle)]
+extern "C" fn failsafe_widen(
+    old: *const u8,
+    old_len: usize,
+    last_now: u64,
+    new: *mut u8,
+    new_len: usize,
+) -> u32 {
+    // SAFETY: the driver hands over slices that are alive and do not overlap.
+    let (old, new) = unsafe {
+        (
+            from_raw_parts(old, old_len),
+            from_raw_parts_mut(new, new_len),
+        )
+    };
+    slips_wide::widen(fault(), old, last_now, new)
 }

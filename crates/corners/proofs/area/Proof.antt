@@ -1,12 +1,13 @@
 -- `area` meets its contract. Assumes nothing.
 use mathlib.Core.Path.{_≡_, refl, sym}
+use mathlib.Core.List.{foldl}
 use Prim.Native.Nat.{_≤_, _-_}
 use native.Mathlib.Omega.{arith}
 use lib.ListN.{length, take, drop}
 use lib.Ieee.{binary32, add}
 use borrow.Author.Needs.{needs}
 use Rattle.float32.specs.Binary32.{zeroF}
-use Rattle.corners.specs.Ring.{fold, sides}
+use Rattle.corners.specs.Ring.{sides}
 use Rattle.corners.specs.Acceptance.{areaTerm, polygonArea}
 use Rattle.corners.proofs.Laws.{side-at, side-end}
 use Rattle.corners.proofs.Places.{nowhere, take-capped}
@@ -17,7 +18,7 @@ use Rattle.corners.proofs.area.Tie as tie
 abbrev Inv-loop : tie.InvT-loop
 Inv-loop n pts m sum₀ i₀ sum i =
     ((i ≤ m) × (m ≤ 16))
-    × (fold (λ x s. add binary32 x (areaTerm s)) sum (drop i (sides (take m pts))) ≡ fold (λ x s. add binary32 x (areaTerm s)) zeroF (sides (take m pts)))
+    × (foldl (λ x s. add binary32 x (areaTerm s)) sum (drop i (sides (take m pts))) ≡ foldl (λ x s. add binary32 x (areaTerm s)) zeroF (sides (take m pts)))
 
 abbrev μ-loop : tie.MeasureT-loop
 μ-loop n pts m sum₀ i₀ sum i = m - i

@@ -1,10 +1,10 @@
 -- `corners_fault` meets its contract. Assumes nothing.
 use mathlib.Core.Path.{_≡_}
+use mathlib.Core.List.{foldl}
 use Prim.Native.Nat.{_≤_, _-_}
 use native.Mathlib.Omega.{arith}
 use lib.ListN.{length, take, drop}
 use borrow.Author.Needs.{needs}
-use Rattle.corners.specs.Ring.{fold}
 use Rattle.corners.specs.Acceptance.{resultAnd, firstFault, cornerFault}
 use Rattle.corners.proofs.Laws.{corner-at, corner-end}
 use Rattle.corners.proofs.Places.{nowhere}
@@ -12,7 +12,7 @@ use Rattle.corners.proofs.corners_fault.Statement.{statement}
 use Rattle.corners.proofs.corners_fault.Tie as tie
 
 abbrev Inv-loop : tie.InvT-loop
-Inv-loop n pts v₀ i₀ v i = (i ≤ n) × (fold (λ w a. resultAnd w (cornerFault a)) v (drop i (take n pts)) ≡ firstFault cornerFault (take n pts))
+Inv-loop n pts v₀ i₀ v i = (i ≤ n) × (foldl (λ w a. resultAnd w (cornerFault a)) v (drop i (take n pts)) ≡ firstFault cornerFault (take n pts))
 
 abbrev μ-loop : tie.MeasureT-loop
 μ-loop n pts v₀ i₀ v i = n - i

@@ -1,13 +1,14 @@
 -- `go_round` meets its contract. Assumes nothing.
 use mathlib.Core.Path.{_≡_, refl, ap}
 use mathlib.Core.Bool.{_||_}
+use mathlib.Core.List.{foldl}
 use Prim.Native.Nat.{_≤_, _-_}
 use native.Mathlib.Omega.{arith}
 use lib.ListN.{length, take, drop}
 use lib.Ieee.{Float, binary32, add, mul, lt}
 use borrow.Author.Needs.{needs}
 use Rattle.float32.specs.Binary32.{zeroF}
-use Rattle.corners.specs.Ring.{fold, any, sides, turns}
+use Rattle.corners.specs.Ring.{anyMeets, sides, turns}
 use Rattle.corners.specs.Acceptance.{half, cornerFault, flatTurn, cross2, areaTerm, polygonArea}
 use Rattle.corners.specs.Round.{failed, roundOf}
 use Rattle.corners.proofs.Laws.{corner-end, side-end, turn-end}
@@ -20,11 +21,11 @@ abbrev Inv-loop : tie.InvT-loop
 Inv-loop n pts failed₀ flat₀ pos₀ neg₀ area₀ i₀ k₀ second a₀ b₀ bad flat pos neg area i k a b =
     (i ≤ n)
     × (Stands pts n nowhere i k a b
-    × ((fold (λ x p. x || failed (cornerFault p)) bad (drop i (take n pts)) ≡ any (λ p. failed (cornerFault p)) (take n pts))
-    × ((fold (λ x t. x || flatTurn t) flat (drop i (turns (take n pts))) ≡ any flatTurn (turns (take n pts)))
-    × ((fold (λ x t. x || lt zeroF (cross2 t)) pos (drop i (turns (take n pts))) ≡ any (λ t. lt zeroF (cross2 t)) (turns (take n pts)))
-    × ((fold (λ x t. x || lt (cross2 t) zeroF) neg (drop i (turns (take n pts))) ≡ any (λ t. lt (cross2 t) zeroF) (turns (take n pts)))
-    × (fold (λ x s. add binary32 x (areaTerm s)) area (drop i (sides (take n pts))) ≡ fold (λ x s. add binary32 x (areaTerm s)) zeroF (sides (take n pts))))))))
+    × ((foldl (λ x p. x || failed (cornerFault p)) bad (drop i (take n pts)) ≡ anyMeets (λ p. failed (cornerFault p)) (take n pts))
+    × ((foldl (λ x t. x || flatTurn t) flat (drop i (turns (take n pts))) ≡ anyMeets flatTurn (turns (take n pts)))
+    × ((foldl (λ x t. x || lt zeroF (cross2 t)) pos (drop i (turns (take n pts))) ≡ anyMeets (λ t. lt zeroF (cross2 t)) (turns (take n pts)))
+    × ((foldl (λ x t. x || lt (cross2 t) zeroF) neg (drop i (turns (take n pts))) ≡ anyMeets (λ t. lt (cross2 t) zeroF) (turns (take n pts)))
+    × (foldl (λ x s. add binary32 x (areaTerm s)) area (drop i (sides (take n pts))) ≡ foldl (λ x s. add binary32 x (areaTerm s)) zeroF (sides (take n pts))))))))
 
 abbrev μ-loop : tie.MeasureT-loop
 μ-loop n pts failed₀ flat₀ pos₀ neg₀ area₀ i₀ k₀ second a₀ b₀ bad flat pos neg area i k a b = n - i

@@ -4,7 +4,7 @@ use Prim.Native.Nat.{_+_, _*_, _≤_, _<_, _-_}
 use native.Mathlib.Omega.{arith}
 use lib.ListN.{length, take}
 use borrow.Author.Needs.{needs}
-use Rattle.corners.specs.Ring.{any, tails}
+use Rattle.corners.specs.Ring.{anyMeets, tails}
 use Rattle.corners.specs.Acceptance.{recurs}
 use Rattle.corners.proofs.Places.{nowhere}
 use Rattle.corners.proofs.Pairs.{left, row-first, row-last, row-done, pair-alike, pair-unlike}
@@ -12,7 +12,7 @@ use Rattle.corners.proofs.has_duplicate.Statement.{statement}
 use Rattle.corners.proofs.has_duplicate.Tie as tie
 
 abbrev Inv-loop : tie.InvT-loop
-Inv-loop n pts i₀ j₀ p₀ i j p = (i < j) × ((j < n) × (left (take n pts) i p j ≡ any recurs (tails (take n pts))))
+Inv-loop n pts i₀ j₀ p₀ i j p = (i < j) × ((j < n) × (left (take n pts) i p j ≡ anyMeets recurs (tails (take n pts))))
 
 -- a row is at most 16 places long
 abbrev μ-loop : tie.MeasureT-loop

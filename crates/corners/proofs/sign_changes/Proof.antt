@@ -1,10 +1,11 @@
 -- `sign_changes` meets its contract: what is left of the sides from i on joins to the signs so far as all sides join to none. Assumes nothing.
 use mathlib.Core.Path.{_≡_}
+use mathlib.Core.List.{foldl}
 use Prim.Native.Nat.{_+_, _^_, _≤_, _<_, _-_}
 use native.Mathlib.Omega.{arith}
 use lib.ListN.{length, take, drop}
 use borrow.Author.Needs.{needs}
-use Rattle.corners.specs.Ring.{fold, sides}
+use Rattle.corners.specs.Ring.{sides}
 use Rattle.corners.specs.OnceRound.{joinIf, northSign, closed, unsigned}
 use Rattle.corners.proofs.Laws.{side-at, side-end}
 use Rattle.corners.proofs.Places.{nowhere}
@@ -16,7 +17,7 @@ use Rattle.corners.proofs.sign_changes.Tie as tie
 abbrev Inv-loop : tie.InvT-loop
 Inv-loop n pts s₀ i₀ s i =
     ((i ≤ n) × (s .count ≤ i))
-    × (fold (λ w t. joinIf w (northSign t)) s (drop i (sides (take n pts))) ≡ fold (λ w t. joinIf w (northSign t)) unsigned (sides (take n pts)))
+    × (foldl (λ w t. joinIf w (northSign t)) s (drop i (sides (take n pts))) ≡ foldl (λ w t. joinIf w (northSign t)) unsigned (sides (take n pts)))
 
 abbrev μ-loop : tie.MeasureT-loop
 μ-loop n pts s₀ i₀ s i = n - i

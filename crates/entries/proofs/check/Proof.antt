@@ -7,7 +7,7 @@ use denote.Ref.{now}
 use borrow.Author.Tests.{eqb-true}
 use Rattle.flight.specs.Flight.{orRefused, readFlight}
 use Rattle.frame_areas.proofs.None.{none-refused}
-use Rattle.entries.specs.Entry.{stepOrCheck}
+use Rattle.calls.specs.Entry.{stepOrCheck}
 use borrow.Author.Needs.{needs}
 use Rattle.entries.proofs.check.Statement.{statement}
 use Rattle.entries.proofs.check.Tie as tie

@@ -1,5 +1,5 @@
 -- `entries::fresh` meets its contract. Assumes nothing.
-use Rattle.entries.specs.Entry.{freshCall}
+use Rattle.calls.specs.Entry.{freshCall}
 use borrow.Author.Needs.{needs}
 use Rattle.entries.proofs.fresh.Statement.{statement}
 use Rattle.entries.proofs.fresh.Tie as tie

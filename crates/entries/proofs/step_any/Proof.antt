@@ -1,5 +1,5 @@
 -- `entries::step_any` meets its contract. Assumes nothing.
-use Rattle.entries.specs.Entry.{stepOrCheck}
+use Rattle.calls.specs.Entry.{stepOrCheck}
 use borrow.Author.Needs.{needs}
 use Rattle.entries.proofs.step_any.Statement.{statement}
 use Rattle.entries.proofs.step_any.Tie as tie

@@ -1,5 +1,6 @@
 -- `entries::step_telemetry` meets its contract. Assumes nothing.
 use mathlib.Core.Path.{refl}
+use Rattle.flight.specs.Flight.{stepFlight}
 use borrow.Author.Needs.{needs}
 use Rattle.entries.proofs.step_telemetry.Statement.{statement}
 use Rattle.entries.proofs.step_telemetry.Tie as tie
@@ -29,6 +30,7 @@ same-length-2 : tie.Need-same-length-2
 same-length-2 c = search needs
 
 returns-2 : tie.Need-returns-2
+unfolding stepFlight
 returns-2 c = rw (← c .before .before .before .before .before .before .before .before .before .before .read-telemetry .ensures, c .before .before .before .before .before .before .before .before .t .given .1) (c .before .before .before .before .step-write .ensures)
 
 pub step-telemetry-spec : {M : Type 1} → statement M

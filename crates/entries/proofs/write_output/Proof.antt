@@ -12,7 +12,7 @@ use Rattle.frame_decision.proofs.Size.{size as decision-size}
 use Rattle.frame_side.specs.SideFrame.{sideFrame}
 use Rattle.frame_side.proofs.Size.{size as side-size}
 use Rattle.frame_side.proofs.Written.{side-written}
-use Rattle.entries.specs.Entry.{outputSize}
+use Rattle.calls.specs.Entry.{outputSize}
 use Rattle.entries.proofs.Buffers.{frame-written}
 use borrow.Author.Needs.{needs}
 use Rattle.entries.proofs.write_output.Statement.{statement}

@@ -8,7 +8,7 @@ use lib.Ieee.{le}
 use lib.ListN.{length, getD, take, drop, length-map}
 use borrow.Author.Needs.{needs}
 use Rattle.float32.specs.Binary32.{zeroF}
-use Rattle.corners.specs.Ring.{any, sides}
+use Rattle.corners.specs.Ring.{anyMeets, sides}
 use Rattle.corners.proofs.Laws.{side-at, side-end, next-last}
 use Rattle.corners.proofs.Places.{nowhere, take-capped, length-capped}
 use Rattle.types.specs.declared.Point2.{Point2}
@@ -26,7 +26,7 @@ abbrev Inv-loop : tie.InvT-loop
 Inv-loop poly n a₀ i₀ a i =
     (i < n)
     × ((a ≡ getD (poly .verts) i nowhere)
-    × (any notWithin (drop i (sides (take n (poly .verts)))) ≡ any notWithin (sides (take n (poly .verts)))))
+    × (anyMeets notWithin (drop i (sides (take n (poly .verts)))) ≡ anyMeets notWithin (sides (take n (poly .verts)))))
 
 abbrev μ-loop : tie.MeasureT-loop
 μ-loop poly n a₀ i₀ a i = n - i

@@ -7,7 +7,7 @@ use native.Mathlib.Omega.{arith}
 use lib.Ieee.{inf, nan}
 use lib.ListN.{length, getD, take, drop, length-map}
 use borrow.Author.Needs.{needs}
-use Rattle.corners.specs.Ring.{pairs, sides}
+use Rattle.corners.specs.Ring.{beside, sides}
 use Rattle.geometry.specs.Distance.{noSide, edgeSignedDistanceBy, nearestFrom}
 use Rattle.corners.proofs.Laws.{next-last, side-beside, side-beside-end}
 use Rattle.corners.proofs.Places.{nowhere, take-capped, length-capped}
@@ -19,7 +19,7 @@ abbrev Inv-loop : tie.InvT-loop
 Inv-loop p poly lengths n top near₀ a₀ i₀ near a i =
     (i < n)
     × ((a ≡ getD (poly .verts) i nowhere)
-    × (nearestFrom (edgeSignedDistanceBy p) i near (drop i (pairs (sides (take n (poly .verts))) (lengths .m))) ≡ nearestFrom (edgeSignedDistanceBy p) 0 (noSide (inf false)) (pairs (sides (take n (poly .verts))) (lengths .m))))
+    × (nearestFrom (edgeSignedDistanceBy p) i near (drop i (beside (sides (take n (poly .verts))) (lengths .m))) ≡ nearestFrom (edgeSignedDistanceBy p) 0 (noSide (inf false)) (beside (sides (take n (poly .verts))) (lengths .m))))
 
 abbrev μ-loop : tie.MeasureT-loop
 μ-loop p poly lengths n top near₀ a₀ i₀ near a i = n - i

@@ -1,0 +1,2 @@
+-- The law about the flights that are read.
+pub mod Rust

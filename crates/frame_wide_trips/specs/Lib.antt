@@ -1,0 +1,2 @@
+-- The laws of the frames with instants in eight bytes.
+pub mod Claim

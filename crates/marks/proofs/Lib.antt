@@ -1,0 +1,3 @@
+-- What the marks come out at.
+pub mod Marks
+pub mod Rows
