@@ -251,7 +251,7 @@ fn step_wide(
     step_marked(with_side, flight, areas, state, telemetry, output)
 }
 
-// One step, or with `checking` the refusal of configuration, fence and areas alone. Both are in one function, so that `read_flight` has one
+// One step, or with `checking` the refusal of configuration, fence and areas alone. Both are in one function, so that what reads a flight has one
 // caller and the compiler puts it into the step.
 fn step_or_check(
     checking: bool,
@@ -267,7 +267,16 @@ fn step_or_check(
     ensures { λ _. ⌜ now (state .exit) ≡ stepOrCheck checking «with_side» (now (config .entry)) (now (fence .entry)) (now (state .entry)) (now (telemetry .entry)) (now (output .entry)) (now (areas .entry)) .state ⌝ }
     ensures { λ _. ⌜ now (output .exit) ≡ stepOrCheck checking «with_side» (now (config .entry)) (now (fence .entry)) (now (state .entry)) (now (telemetry .entry)) (now (output .entry)) (now (areas .entry)) .output ⌝ }
 {
-    let flight = flight::read_flight(config, fence);
+    let fault = frame_config::config_fault(config);
+    if fault != 0 {
+        return fault as u32;
+    }
+    let read = frame_fence::read_fence(fence);
+    let unread = read.refused;
+    if unread != 0 {
+        return unread as u32;
+    }
+    let flight = flight::accept_frame(&config[0..246], read);
     let refused = first_refusal(flight.refused, areas);
     if refused != 0 {
         return refused as u32;

@@ -1,2 +1,3 @@
--- The law about the flights that are read.
+-- The laws about the flights that are read.
+pub mod Read
 pub mod Rust

@@ -4,12 +4,15 @@ use Prim.Native.Nat.{ℕ}
 use mathlib.Core.Bool.{cond}
 use mathlib.Core.List.{List}
 use lib.Dec.{eqb}
+use lib.Ieee.{Float, le}
 use lib.ListN.{replicate}
+use Rattle.geometry.specs.declared.GeofenceResult.{GeofenceResult}
+use Rattle.geometry.specs.declared.SideLengths.{SideLengths}
 use Rattle.geometry.specs.Polygon.{zeroPoint}
 use Rattle.geometry.specs.Distance.{ringOf, sideLengths}
 use Rattle.config.specs.declared.Config.{Config}
 use Rattle.config.specs.declared.ConfigResult.{ConfigResult}
-use Rattle.config.specs.Config.{configErrorNumber, validateConfig}
+use Rattle.config.specs.Config.{configErrorNumber, checkConfig, validateConfig}
 use Rattle.config.specs.Default.{defaultConfig}
 use Rattle.float32.specs.Binary32.{zeroF}
 use Rattle.types.specs.declared.Telemetry.{Telemetry}
@@ -40,6 +43,16 @@ acceptFlight cfg read =
       cfg = cfg;
       fence = made .fence;
       lengths = sideLengths (ringOf (made .fence .poly));
+    }
+
+-- the same from what the fence rules gave, the lengths of the sides and home's distance: a helper of the code, which a law ties to it
+unfoldable pub flightBy : Config → GeofenceResult → SideLengths → Float → Flight
+flightBy cfg made lengths d =
+    record {
+      refused = orRefused (fenceNumber (made .result)) (configNumber (checkConfig cfg (le zeroF d) (made .fence .«min_alt_m») (made .fence .«max_alt_m»)));
+      cfg = cfg;
+      fence = made .fence;
+      lengths = lengths;
     }
 
 -- a refusal; what stands beside it is never used

@@ -1,12 +1,15 @@
 // Configuration and fence of a flight: read, and accepted or refused, in document 01's order.
 ghost use mathlib.Core.Path.{_≡_};
-ghost use Rattle.flight.specs.Flight.{orRefused, configNumber, refusedFlight, acceptFlight, readFlight, stepFlight};
+ghost use Rattle.config.specs.Config.{home};
+ghost use Rattle.geometry.specs.Distance.{ringOf, sideLengths, nearestBy};
+ghost use Rattle.frame_config.specs.ConfigFrame.{keepsRaised, configAt};
+ghost use Rattle.flight.specs.Flight.{orRefused, configNumber, refusedFlight, flightBy, acceptFlight, stepFlight};
 use config::Config;
 use config::ConfigResult;
-use frame_config::ConfigRead;
 use frame_fence::FenceRead;
 use geometry::ConvexPolygon;
 use geometry::Geofence;
+use geometry::GeofenceResult;
 use geometry::SideLengths;
 use supervisor::Stepped;
 use supervisor::Supervisor;
@@ -38,18 +41,29 @@ fn config_number(r: ConfigResult) -> u16
     }
 }
 
-// The fence rules, then the configuration rules. Home is tested with the lengths that the steps use.
-pub fn accept_flight(cfg: Config, read: FenceRead) -> Flight
-    ensures { λ r. ⌜ r ≡ acceptFlight cfg read ⌝ }
+fn lengths_of(fence: Geofence) -> SideLengths
+    ensures { λ r. ⌜ r ≡ sideLengths (ringOf (fence .poly)) ⌝ }
 {
-    let made = frame_fence::fence_of(read);
-    let result = made.result;
-    let fence = made.fence;
     let poly = fence.poly;
-    let lengths = geometry::side_lengths(poly);
+    geometry::side_lengths(poly)
+}
+
+fn home_distance(fence: Geofence, lengths: SideLengths) -> f32
+    ensures { λ r. ⌜ r ≡ nearestBy (ringOf (fence .poly)) (lengths .m) home .m ⌝ }
+{
+    let poly = fence.poly;
     let home = Point2 { n: 0.0, e: 0.0 };
     let near = geometry::nearest_by(poly, lengths, home);
-    let checked = config::check_config(cfg, 0.0 <= near.m, fence.min_alt_m, fence.max_alt_m);
+    near.m
+}
+
+// The fence rules' answer, then the configuration rules.
+fn flight_by(cfg: Config, made: GeofenceResult, lengths: SideLengths, home_m: f32) -> Flight
+    ensures { λ r. ⌜ r ≡ flightBy cfg made lengths «home_m» ⌝ }
+{
+    let result = made.result;
+    let fence = made.fence;
+    let checked = config::check_config(cfg, 0.0 <= home_m, fence.min_alt_m, fence.max_alt_m);
     let first = frame_fence::fence_number(result);
     let second = config_number(checked);
     Flight {
@@ -58,6 +72,29 @@ pub fn accept_flight(cfg: Config, read: FenceRead) -> Flight
         fence: fence,
         lengths: lengths,
     }
+}
+
+// The fence rules, then the configuration rules. Home is tested with the lengths that the steps use.
+pub fn accept_flight(cfg: Config, read: FenceRead) -> Flight
+    ensures { λ r. ⌜ r ≡ acceptFlight cfg read ⌝ }
+{
+    let made = frame_fence::fence_of(read);
+    let fence = made.fence;
+    let lengths = lengths_of(fence);
+    let home_m = home_distance(fence, lengths);
+    flight_by(cfg, made, lengths, home_m)
+}
+
+// The same of a configuration in its frame. Its values are read last: before, the roots of the fence would push them out of the registers.
+pub fn accept_frame(config: &[u8], read: FenceRead) -> Flight
+    ensures { λ r. ⌜ r ≡ acceptFlight (configAt (now (config .entry)) (keepsRaised (now (config .entry)))) read ⌝ }
+{
+    let made = frame_fence::fence_of(read);
+    let fence = made.fence;
+    let lengths = lengths_of(fence);
+    let home_m = home_distance(fence, lengths);
+    let cfg = frame_config::config_values(config);
+    flight_by(cfg, made, lengths, home_m)
 }
 
 // A refusal, with the default settings and no corners beside it.
@@ -83,24 +120,6 @@ pub fn refused_flight(n: u16) -> Flight
         cfg: cfg,
         fence: fence,
         lengths: lengths,
-    }
-}
-
-// Configuration frame, fence frame, fence rules, configuration rules.
-pub fn read_flight(config: &[u8], fence: &[u8]) -> Flight
-    ensures { λ r. ⌜ r ≡ readFlight (now (config .entry)) (now (fence .entry)) ⌝ }
-{
-    match frame_config::read_config(config) {
-        ConfigRead::Refused(n) => refused_flight(n),
-        ConfigRead::Frame(cfg) => {
-            let read = frame_fence::read_fence(fence);
-            let n = read.refused;
-            if n == 0 {
-                accept_flight(cfg, read)
-            } else {
-                refused_flight(n)
-            }
-        }
     }
 }
 

@@ -96,6 +96,11 @@ readConfig s =
     (cond (byteBelow s 9 2) (ConfigRead.Frame (configAt s keeps)) (ConfigRead.Refused 4))
     (ConfigRead.Refused fault)
 
+-- the number of a frame that is refused; 0 where it is not
+abbrev pub configRefusal : ConfigRead → ℕ
+configRefusal (ConfigRead.Frame cfg) = 0
+configRefusal (ConfigRead.Refused n) = n
+
 -- the fields as cells, in six parts
 unfoldable pub freshnessCells : Config → List Cell
 freshnessCells c =

@@ -3,7 +3,7 @@ ghost use mathlib.Core.Path.{_≡_};
 ghost use lib.Seq.{sets};
 ghost use Rattle.wire.specs.Cell.{bytesOf};
 ghost use Rattle.wire.specs.Frame.{roomFault, frameWritten};
-ghost use Rattle.frame_config.specs.ConfigFrame.{configKind, keepsRaised, configAt, readConfig, freshnessCells, linkCells, fenceCells, batteryCells, energyCells, flightCells, configFrame};
+ghost use Rattle.frame_config.specs.ConfigFrame.{configKind, keepsRaised, configAt, readConfig, configRefusal, freshnessCells, linkCells, fenceCells, batteryCells, energyCells, flightCells, configFrame};
 use config::Config;
 
 pub enum ConfigRead {
@@ -109,6 +109,27 @@ pub fn read_config(s: &[u8]) -> ConfigRead
     } else {
         ConfigRead::Refused(wire::frame_fault(s, kind, 244))
     }
+}
+
+// The refusal number of a frame by itself, 0 for none.
+pub fn config_fault(s: &[u8]) -> u16
+    ensures { λ r. ⌜ r ≡ configRefusal (readConfig (now (s .entry))) ⌝ }
+{
+    let keeps = keeps_raised(s);
+    let kind = config_kind(keeps);
+    if wire::frame_fits(s, kind, 244) {
+        if wire::byte_below(s, 9, 2) { 0 } else { 4 }
+    } else {
+        wire::frame_fault(s, kind, 244)
+    }
+}
+
+// The Config of a frame that is not refused.
+pub fn config_values(s: &[u8]) -> Config
+    ensures { λ r. ⌜ r ≡ configAt (now (s .entry)) (keepsRaised (now (s .entry))) ⌝ }
+{
+    let keeps = keeps_raised(s);
+    config_at(s, keeps)
 }
 
 fn put_freshness(s: &mut [u8], c: Config)

@@ -1,20 +1,14 @@
 -- `frame_config::read_config` meets its contract. Assumes nothing.
-use mathlib.Core.Bool.{Bool}
-use mathlib.Core.List.{List}
-use mathlib.Core.Path.{_≡_, _∙_, sym, ap}
+use mathlib.Core.Path.{_∙_, sym, ap}
 use Prim.Native.Nat.{ℕ}
 use denote.Ref.{now}
 use lib.Dec.{eqb}
-use Rattle.wire.specs.Frame.{frameFault}
-use Rattle.frame_config.specs.ConfigFrame.{configKind, keepsRaised, configAt, readConfig}
+use Rattle.frame_config.specs.ConfigFrame.{configAt, readConfig}
 use Rattle.frame_config.specs.declared.ConfigRead.the-variants.{Frame, Refused}
+use Rattle.frame_config.proofs.Accepted.{due-fault}
 use borrow.Author.Needs.{needs}
 use Rattle.frame_config.proofs.read_config.Statement.{statement}
 use Rattle.frame_config.proofs.read_config.Tie as tie
-
--- the fault of the head that is due
-fault : (s : List ℕ) (k : ℕ) (b : Bool) → k ≡ configKind b → b ≡ keepsRaised s → frameFault k 244 s ≡ frameFault (configKind (keepsRaised s)) 244 s
-fault s k b e g = ap (λ (n : ℕ). frameFault n 244 s) (e ∙ ap configKind g)
 
 keeps-raised-requires : tie.Need-keeps-raised-requires
 keeps-raised-requires c κs = search needs
@@ -39,7 +33,7 @@ unfolding readConfig
 returns c =
     let s = now (c .before .before .before .before .before .before .before .before .args .s) in
     let o = c .before .before .before .before .before .before .keeps-raised .ensures in
-    let f = fault s _ _ (c .before .before .before .before .before .config-kind .ensures) o in
+    let f = due-fault s _ _ (c .before .before .before .before .before .config-kind .ensures) o in
     simp (sym (ap (λ (n : ℕ). eqb n 0) f) ∙ sym (c .before .before .before .before .frame-fits .ensures) ∙ c .before .before .before .if1 .taken, sym (c .before .before .byte-below .ensures) ∙ c .before .if2 .taken)
     (ap Frame (c .config-at .ensures ∙ ap (configAt s) o))
 
@@ -47,14 +41,14 @@ returns-2 : tie.Need-returns-2
 unfolding readConfig
 returns-2 c =
     let s = now (c .before .before .before .before .before .before .before .args .s) in
-    let f = fault s _ _ (c .before .before .before .before .config-kind .ensures) (c .before .before .before .before .before .keeps-raised .ensures) in
+    let f = due-fault s _ _ (c .before .before .before .before .config-kind .ensures) (c .before .before .before .before .before .keeps-raised .ensures) in
     simp (sym (ap (λ (n : ℕ). eqb n 0) f) ∙ sym (c .before .before .before .frame-fits .ensures) ∙ c .before .before .if1 .taken, sym (c .before .byte-below .ensures) ∙ c .if2 .left)
 
 returns-3 : tie.Need-returns-3
 unfolding readConfig
 returns-3 c =
     let s = now (c .before .before .before .before .before .before .args .s) in
-    let f = fault s _ _ (c .before .before .before .config-kind .ensures) (c .before .before .before .before .keeps-raised .ensures) in
+    let f = due-fault s _ _ (c .before .before .before .config-kind .ensures) (c .before .before .before .before .keeps-raised .ensures) in
     simp (sym (ap (λ (n : ℕ). eqb n 0) f) ∙ sym (c .before .before .frame-fits .ensures) ∙ c .before .if1 .left) (ap Refused (c .frame-fault .ensures ∙ f))
 
 pub read-config-spec : {M : Type 1} → statement M
