@@ -16,10 +16,11 @@ pub struct ConvexPolygon {
     pub len: usize,
 }
 
-// Result<ConvexPolygon, FenceError>: the polygon is accepted where the result is Ok.
+// Result<ConvexPolygon, FenceError>: the polygon is accepted where the result is Ok. The large field stands first, here and below: so fewer copies
+// are made of it.
 pub struct PolygonResult {
-    pub result: FenceResult,
     pub poly: ConvexPolygon,
+    pub result: FenceResult,
 }
 
 pub struct Geofence {
@@ -30,8 +31,8 @@ pub struct Geofence {
 
 // Result<Geofence, FenceError>: the fence is accepted where the result is Ok.
 pub struct GeofenceResult {
-    pub result: FenceResult,
     pub fence: Geofence,
+    pub result: FenceResult,
 }
 
 // The length of each side, from the first corner's on; 0 in the unused places.
