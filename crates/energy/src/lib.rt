@@ -1,5 +1,6 @@
 // The Rust's energy.rs: what a return to launch and a landing cost.
 ghost use mathlib.Core.Path.{_≡_};
+ghost use Rattle.types.specs.Vec3.{altM};
 ghost use Rattle.energy.specs.Energy.{marginOf, insufficientOf, rtlWh, landWh, rtlEnergyAt, rtlEnergy};
 use config::Config;
 use types::EnergyEstimate;
@@ -42,10 +43,11 @@ fn insufficient_of(remaining_wh: OptionF32, land_wh: f32) -> bool
     }
 }
 
-// The estimate, with the horizontal distance and the height already worked out.
-pub fn rtl_energy_at(cfg: Config, d: f32, h: f32, remaining_wh: OptionF32) -> EnergyEstimate
-    ensures { λ r. ⌜ r ≡ rtlEnergyAt cfg d h «remaining_wh» ⌝ }
+// For a caller that has the horizontal distance home already: it is a root, and is taken once.
+pub fn rtl_energy_by(cfg: Config, pos: Vec3, d: f32, remaining_wh: OptionF32) -> EnergyEstimate
+    ensures { λ r. ⌜ r ≡ rtlEnergyAt cfg d (altM pos) «remaining_wh» ⌝ }
 {
+    let h = pos.alt_m();
     let rtl = rtl_wh(cfg, d, h);
     let land = land_wh(cfg, h);
     let margin = margin_of(remaining_wh, rtl, cfg.reserve_wh);
@@ -64,6 +66,5 @@ pub fn rtl_energy(cfg: Config, pos: Vec3, remaining_wh: OptionF32) -> EnergyEsti
     ensures { λ r. ⌜ r ≡ rtlEnergy cfg pos «remaining_wh» ⌝ }
 {
     let d = pos.horizontal_dist_home();
-    let h = pos.alt_m();
-    rtl_energy_at(cfg, d, h, remaining_wh)
+    rtl_energy_by(cfg, pos, d, remaining_wh)
 }

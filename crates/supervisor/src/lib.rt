@@ -89,27 +89,51 @@ pub struct Sensed {
     pub side: u8,
 }
 
-// The distance is the clearance: from the fence, and from the keep-out areas.
-fn place_of(
+// What is read of a position: the place, and the energy to return from it.
+struct Located {
+    place: OptionPlace,
+    energy: EnergyEstimate,
+}
+
+// The distance is the clearance: from the fence, and from the keep-out areas. The energy is that of the origin where there is no position.
+fn locate(
+    cfg: Config,
     pos: OptionPositionSample,
+    remaining_wh: OptionF32,
     poly: ConvexPolygon,
     lengths: SideLengths,
     areas: &[u8],
-) -> OptionPlace
-    ensures { λ r. ⌜ r ≡ placeOf (λ p. clearanceAt (now (areas .entry)) (nearestBy (ringOf poly) (lengths .m) p) p) pos ⌝ }
+) -> Located
+    ensures place { λ r. ⌜ r .place ≡ placeOf (λ p. clearanceAt (now (areas .entry)) (nearestBy (ringOf poly) (lengths .m) p) p) pos ⌝ }
+    ensures energy { λ r. ⌜ r .energy ≡ energyAt cfg (placeOf (λ p. clearanceAt (now (areas .entry)) (nearestBy (ringOf poly) (lengths .m) p) p) pos) «remaining_wh» ⌝ }
 {
     match pos {
         OptionPositionSample::Some(s) => {
             let p = s.pos;
             let pt = Point2 { n: p.n, e: p.e };
             let fence = geometry::nearest_by(poly, lengths, pt);
-            OptionPlace::Some(Place {
+            let d = p.horizontal_dist_home();
+            let place = Place {
                 fence: frame_areas::clearance(areas, fence, pt),
-                home_dist_m: p.horizontal_dist_home(),
+                home_dist_m: d,
                 alt_m: p.alt_m(),
-            })
+            };
+            Located {
+                place: OptionPlace::Some(place),
+                energy: energy::rtl_energy_by(cfg, p, d, remaining_wh),
+            }
         }
-        OptionPositionSample::None => OptionPlace::None,
+        OptionPositionSample::None => {
+            let origin = Vec3 {
+                n: 0.0,
+                e: 0.0,
+                d: 0.0,
+            };
+            Located {
+                place: OptionPlace::None,
+                energy: energy::rtl_energy(cfg, origin, remaining_wh),
+            }
+        }
     }
 }
 
@@ -117,23 +141,6 @@ fn valid_place(valid: bool, place: OptionPlace) -> OptionPlace
     ensures { λ r. ⌜ r ≡ validPlace valid place ⌝ }
 {
     if valid { place } else { OptionPlace::None }
-}
-
-// At the origin where there is no position.
-fn energy_at(cfg: Config, place: OptionPlace, remaining_wh: OptionF32) -> EnergyEstimate
-    ensures { λ r. ⌜ r ≡ energyAt cfg place «remaining_wh» ⌝ }
-{
-    match place {
-        OptionPlace::Some(p) => energy::rtl_energy_at(cfg, p.home_dist_m, p.alt_m, remaining_wh),
-        OptionPlace::None => {
-            let origin = Vec3 {
-                n: 0.0,
-                e: 0.0,
-                d: 0.0,
-            };
-            energy::rtl_energy(cfg, origin, remaining_wh)
-        }
-    }
 }
 
 // The triggers have a margin only where there is a position.
@@ -192,8 +199,9 @@ fn sense(
         cfg.battery_fresh_ms,
         cfg.usable_capacity_wh,
     );
-    let place = place_of(pos, poly, lengths, areas);
-    let estimate = energy_at(cfg, place, remaining);
+    let l = locate(cfg, pos, remaining, poly, lengths, areas);
+    let place = l.place;
+    let estimate = l.energy;
     let margin_wh = estimate.margin_wh;
     let margin = margin_at(place, margin_wh);
     let near = valid_place(valid, place);

@@ -7,17 +7,12 @@ use Rattle.energy.proofs.rtl_energy.Tie as tie
 horizontal-dist-home-requires : tie.Need-horizontal-dist-home-requires
 horizontal-dist-home-requires c κs = search needs
 
-alt-m-requires : tie.Need-alt-m-requires
-alt-m-requires c κs = search needs
-
-rtl-energy-at-requires : tie.Need-rtl-energy-at-requires
-rtl-energy-at-requires c κs = search needs
+rtl-energy-by-requires : tie.Need-rtl-energy-by-requires
+rtl-energy-by-requires c κs = search needs
 
 returns : tie.Need-returns
 unfolding rtlEnergy
-returns c = rw (← c .before .before .horizontal-dist-home .ensures, ← c .before .alt-m .ensures, ← c .rtl-energy-at .ensures)
+returns c = rw (← c .before .horizontal-dist-home .ensures, ← c .rtl-energy-by .ensures)
 
 pub rtl-energy-spec : {M : Type 1} → statement M
-rtl-energy-spec =
-    tie.close
-    (tie.spec horizontal-dist-home-requires alt-m-requires rtl-energy-at-requires returns)
+rtl-energy-spec = tie.close (tie.spec horizontal-dist-home-requires rtl-energy-by-requires returns)

@@ -13,11 +13,8 @@ position-valid-requires c κs = search needs
 fresh-remaining-wh-requires : tie.Need-fresh-remaining-wh-requires
 fresh-remaining-wh-requires c κs = search needs
 
-place-of-requires : tie.Need-place-of-requires
-place-of-requires c κs = search needs
-
-energy-at-requires : tie.Need-energy-at-requires
-energy-at-requires c κs = search needs
+locate-requires : tie.Need-locate-requires
+locate-requires c κs = search needs
 
 margin-at-requires : tie.Need-margin-at-requires
 margin-at-requires c κs = search needs
@@ -39,7 +36,7 @@ side-of-requires c κs = search needs
 
 returns : tie.Need-returns
 unfolding sense
-returns c = rw (← c .before .before .before .before .before .before .before .before .before .before .before .before .before .apply-glitch-filter .ensures, ← c .before .before .before .before .before .before .before .before .before .before .before .position-valid .ensures, ← c .before .before .before .before .before .before .before .before .before .before .fresh-remaining-wh .ensures, ← c .before .before .before .before .before .before .before .before .before .place-of .ensures, ← c .before .before .before .before .before .before .before .before .energy-at .ensures, ← c .before .before .before .before .before .before .before .margin-at .ensures, ← c .before .before .before .before .before .before .valid-place .ensures, ← c .before .before .before .before .before .update .ensures, ← c .before .before .requested-action .ensures .0, ← c .before .dist-of .ensures, ← c .side-of .ensures)
+returns c = rw (← c .before .before .before .before .before .before .before .before .before .before .before .before .before .apply-glitch-filter .ensures, ← c .before .before .before .before .before .before .before .before .before .before .before .position-valid .ensures, ← c .before .before .before .before .before .before .before .before .before .before .fresh-remaining-wh .ensures, ← c .before .before .before .before .before .before .before .before .before .locate .ensures .1, ← c .before .before .before .before .before .before .before .before .before .locate .ensures .0, ← c .before .before .before .before .before .before .before .margin-at .ensures, ← c .before .before .before .before .before .before .valid-place .ensures, ← c .before .before .before .before .before .update .ensures, ← c .before .before .requested-action .ensures .0, ← c .before .dist-of .ensures, ← c .side-of .ensures)
 
 pub sense-spec : {M : Type 1} → statement M
 sense-spec =
@@ -48,8 +45,7 @@ sense-spec =
     apply-glitch-filter-requires
     position-valid-requires
     fresh-remaining-wh-requires
-    place-of-requires
-    energy-at-requires
+    locate-requires
     margin-at-requires
     valid-place-requires
     update-requires
