@@ -3,7 +3,7 @@ use Prim.Native.Nat.{ℕ, zero, suc, _+_, _*_, _^_, _%_, _<_}
 use native.Mathlib.Nat.{mul-assoc, mul-one, mul-left-comm, mul-pos, eq-of-mul-eq-mul-right, zero-lt-suc, pow-suc, pow-succ', one-mul}
 use native.Mathlib.Omega.{arith}
 use mathlib.Core.Path.{_≡_, refl, sym, ap, _∙_}
-use mathlib.Core.Bool.{Bool, true, false, _&&_, _||_, Bool·beq, false≢true, and-eq-true-iff}
+use mathlib.Core.Bool.{Bool, true, false, cond, _&&_, _||_, Bool·beq, false≢true, and-eq-true-iff}
 use mathlib.Core.Logic.{_⊎_, inl, inr}
 use lib.IntN.{ℤ, pos, negsuc}
 use lib.Dec.{ltb, leb, eqb}
@@ -106,11 +106,15 @@ unique (fin s (suc m) e) (fin t (suc n) d) p q h =
     let st : s ≡ t = r .1 (size-pos m e d) in
     inl (λ i. fin (st i) (u .0 i) (u .1 i))
 
+-- "every −0 as 0"
+zero-plain : (x : Float) → eq x zeroF ≡ true → plainNumber x ≡ zeroF
+unfolding plainNumber
+zero-plain x h = ap (λ (b : Bool). cond b zeroF x) h
+
 -- so with −0 as 0 they are one
 pub plain-unique : (x y : Float) → fits binary32 x ≡ true → fits binary32 y ≡ true → eq x y ≡ true → plainNumber x ≡ plainNumber y
-unfolding plainNumber
 plain-unique x y p q h = by (unique x y p q h)
   where
     by : (x ≡ y) ⊎ ((eq x zeroF ≡ true) × (eq y zeroF ≡ true)) → plainNumber x ≡ plainNumber y
     by (inl e) = ap plainNumber e
-    by (inr e) = rw (e .0, e .1)
+    by (inr e) = zero-plain x (e .0) ∙ sym (zero-plain y (e .1))

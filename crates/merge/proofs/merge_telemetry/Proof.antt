@@ -30,7 +30,7 @@ choose-bool-requires-3 c κs = search needs
 
 returns : tie.Need-returns
 unfolding mergeTelemetry
-returns c = rw (← c .before .before .before .before .before .before .before .choose-position .ensures, ← c .before .before .before .before .before .before .choose-gps .ensures, ← c .before .before .before .before .before .merge-battery .ensures, ← c .before .before .before .before .choose-heartbeat .ensures, ← c .before .before .before .choose-bool .ensures, ← c .before .before .choose-landed .ensures, ← c .before .choose-bool2 .ensures, ← c .choose-bool3 .ensures)
+returns c = rw (c .before .before .before .before .before .before .before .choose-position .ensures, c .before .before .before .before .before .before .choose-gps .ensures, c .before .before .before .before .before .merge-battery .ensures, c .before .before .before .before .choose-heartbeat .ensures, c .before .before .before .choose-bool .ensures, c .before .before .choose-landed .ensures, c .before .choose-bool2 .ensures, c .choose-bool3 .ensures)
 
 pub merge-telemetry-spec : {M : Type 1} → statement M
 merge-telemetry-spec =
