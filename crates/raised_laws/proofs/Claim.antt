@@ -15,12 +15,12 @@ use Rattle.triggers.specs.declared.Raised.{Raised}
 use Rattle.triggers.specs.declared.Families.{Families}
 use Rattle.triggers.specs.declared.TriggerState.{TriggerState}
 use Rattle.triggers.specs.Families.{rcLink, gps, ekf, fence, battery, energy}
-use Rattle.triggers.specs.Update.{noneRaised, raisedOf, keptRaised, freshTriggers, withoutGcsTimer, families, nextTriggers, update}
+use Rattle.triggers.specs.Update.{noneRaised, raisedOf, keptRaised, freshTriggers, families, nextTriggers, update}
 use Rattle.supervisor.specs.declared.Sensed.{Sensed}
 use Rattle.supervisor.specs.declared.Supervisor.{Supervisor}
 use Rattle.supervisor.specs.Settings.{Settings, Site, Fed}
 use Rattle.supervisor.specs.Step.{triggersAfter, glitchAfter, arbiterAfter, sense, decisionOf, disarmed, flown, step}
-use Rattle.supervisor.proofs.Rules.{either}
+use Rattle.supervisor.proofs.Rules.{either, third-raised}
 use Rattle.step_laws.specs.Laws.{clockAt, disarms, after, restFrom, clearedByThird}
 use Rattle.step_laws.proofs.Laws.{step-claim}
 use Rattle.ladder.specs.Clock.{faulted, third}
@@ -50,11 +50,6 @@ none-flag AltitudeMin = refl
 none-flag BatteryWarn = refl
 none-flag BatteryLow = refl
 none-flag EnergyRtlMarginal = refl
-
-third-raised : (isThird : Bool) (t : TriggerState) → triggersAfter isThird t .raised ≡ t .raised
-unfolding withoutGcsTimer
-third-raised true t = refl
-third-raised false t = refl
 
 and-true : (b : Bool) → b && true ≡ b
 and-true true = refl

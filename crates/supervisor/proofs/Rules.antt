@@ -191,7 +191,7 @@ unfolding freshSupervisor freshTriggers
 fresh-fits keeps = none-fits keeps
 
 -- neither a third fault nor the link's timer has a part in it
-third-raised : (third : Bool) (t : TriggerState) → triggersAfter third t .raised ≡ t .raised
+pub third-raised : (third : Bool) (t : TriggerState) → triggersAfter third t .raised ≡ t .raised
 unfolding withoutGcsTimer
 third-raised true t = refl
 third-raised false t = refl
