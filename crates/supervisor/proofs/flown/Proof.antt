@@ -18,7 +18,7 @@ decision-of-requires c κs = search needs
 
 returns : tie.Need-returns
 unfolding flown
-returns c = rw (← c .before .before .before .before .before .before .output-with-latches .ensures, ← c .before .before .before .before .before .arbitrate .ensures, ← c .before .before .before .before .evaluate-gate .ensures, ← c .decision-of .ensures)
+returns c = rw (c .decision-of .ensures, c .before .before .before .before .evaluate-gate .ensures, c .before .before .before .before .before .arbitrate .ensures, c .before .before .before .before .before .before .output-with-latches .ensures)
 
 pub flown-spec : {M : Type 1} → statement M
 flown-spec =
