@@ -1,4 +1,4 @@
--- The run on bytes, computed. Assumes nothing.
+-- The run on bytes, and the calls with several faults, computed. Assumes nothing.
 use Prim.Native.Nat.{ℕ, zero, suc, _≤_}
 use mathlib.Core.Bool.{Bool, true, false, _&&_, false≢true}
 use mathlib.Core.List.{List, [], _∷_}
@@ -37,7 +37,7 @@ use Rattle.options.specs.Enums.{actionAt, reasonAt, leAction, leReason}
 use Rattle.options.specs.Options.{zeros, validOption, optionU8At, optionU32At, leOptionU32, optionF32At}
 use Rattle.options.specs.Position.{vec3At, leVec3, optionPositionAt, leOptionPosition}
 use Rattle.frame_config.specs.ConfigFrame.{keepsRaised, configAt, readConfig, freshnessCells, linkCells, fenceCells, batteryCells, energyCells, flightCells, configCells, configFrame}
-use Rattle.frame_fence.specs.FenceFrame.{pointAt, cornersAt, cornerArray, asksOnceRound, fenceFault, cornersSent, readFence, fenceRules, fenceOf, cornerCells, fenceCells as sentCells, fenceFrame}
+use Rattle.frame_fence.specs.FenceFrame.{pointAt, cornersAt, cornerArray, asksOnceRound, fenceFault, cornersSent, refusedFence, readFence, fenceRules, fenceOf, cornerCells, fenceCells as sentCells, fenceFrame}
 use Rattle.frame_state.specs.StateFrame.{raisedRead, raisedValid, timerAt, triggersAt, arbiterAt, stateAt, timersValid, stateValid, readState, leTimer, leLinks, leFence, leBattery, leInput, leTriggers, leArbiter, stateFrame}
 use Rattle.frame_telemetry.specs.Readings.{fixAt, landedAt, optionGpsAt, stampedF32At, stampedBoolAt, stampedLandedAt}
 use Rattle.frame_telemetry.specs.TelemetryFrame.{telemetryAt, telemetryTests, telemetryValid, readTelemetry, batteryCells as chargeCells, statusCells, telemetryCells, telemetryFrame}
@@ -52,7 +52,7 @@ use Rattle.areas.specs.Clearance.{clearance}
 use Rattle.frame_areas.specs.AreaFrame.{cornersSent as areaCorners, areaRules, distanceAt}
 use Rattle.frame_areas.specs.AreasFrame.{bodies, heldIn, bodiesFit, countsFit, areasFrameFault, areasFault, bodiesOf, areasFrame, clearanceAt}
 use Rattle.run.specs.Run.{Call, stateBytes, Under, recordOfCalls, SameFlight}
-use Rattle.run.specs.Instances.{config, fence, slice, inFlight, blind, crane, stepOn, stepWithSide, stepWithCrane, calls, form, line, lineWithCrane, RunInstance}
+use Rattle.run.specs.Instances.{config, fence, slice, inFlight, blind, crane, stepOn, stepWithSide, stepWithCrane, calls, form, line, lineWithCrane, RunInstance, RefusalOrder}
 use Rattle.run.proofs.Run.{one-flight-claim}
 
 -- ---- the telemetry is bytes
@@ -129,10 +129,27 @@ record Computed : Type 0 where
       ∷ line (inFlight 1000 true) Action.ReturnToLaunch
       ∷ line (inFlight 0 false) Action.ReturnToLaunch
       ∷ []
+  order : RefusalOrder
 
 computed : Computed
-unfolding add sub mul div neg lt le ofBits toBits ofInt round isNan config fence slice inFlight blind stateBytes recordOfCalls isFinite fabs isNegative fmax squareRoot setRequest higherRequest requestedAction altM horizontalDistHome wrappingSub age fresh holdMet cornerFault samePoint flatTurn cross2 mixedTurns areaTerm polygonArea polygonTests polygonNew geofenceNew sideLength edgeSignedDistanceBy signedDistance nearest nearestBy contains badCellCount badCapacity nonFiniteParam nonPositiveSpeed negativePower badThresholdOrder outsideDuration durationOutOfRange rtlAltOutsideFence checkConfig validateConfig defaultConfig rtlWh landWh rtlEnergyAt rtlEnergy withinPosition withinVelocity validatePositionSample validateGps validatePercent validateTelemetry freshBatteryPercent freshRemainingWh freshVoltage distanceBetween withinJump acceptSample applyGlitchFilter invalidInput stageRequest gcsStage gcsClearing gcsLink rcLink gps ekf fenceApproach fenceBreach altitudeMax altitudeMin fenceFamily staleBattery batteryWarn batteryLow batteryCritical battery energyMarginal energy heldSet holdPair raisedBy raisedOf freshTriggers families linkRequests fenceRequests batteryRequests requests nextTriggers update recover applyPersistence applyFeasibility arbitrate gateOpen holdFrom evaluate soundClock clockStep freshSupervisor sense decisionOf flown step u8At numberAt u16At u32At f32At flagAt byteBelow leBytes le8 le16 le32 leF32 leFlag frameHead frameFault frameWritten actionAt reasonAt leAction leReason zeros validOption optionU8At optionU32At leOptionU32 optionF32At vec3At leVec3 optionPositionAt leOptionPosition keepsRaised configAt readConfig freshnessCells linkCells fenceCells batteryCells energyCells flightCells configCells configFrame pointAt cornersAt cornerArray asksOnceRound fenceFault cornersSent readFence fenceRules fenceOf cornerCells sentCells fenceFrame timerAt triggersAt arbiterAt stateAt timersValid stateValid raisedRead raisedValid readState leTimer leLinks leFence leBattery leInput leTriggers leArbiter stateFrame fixAt landedAt optionGpsAt stampedF32At stampedBoolAt stampedLandedAt telemetryAt telemetryTests telemetryValid readTelemetry chargeCells statusCells telemetryCells telemetryFrame decisionFrame acceptFlight refusedFlight readFlight stepAny formOf sideFrame freshCall signChanges northSign areaFault areaCorners areaRules distanceAt bodies heldIn bodiesFit countsFit areasFrameFault areasFault bodiesOf areasFrame crane clearance clearanceAt
-computed = record { accepted = refl; kind = refl; record-is = refl }
+unfolding add sub mul div neg lt le ofBits toBits ofInt round isNan config fence slice inFlight blind stateBytes recordOfCalls isFinite fabs isNegative fmax squareRoot setRequest higherRequest requestedAction altM horizontalDistHome wrappingSub age fresh holdMet cornerFault samePoint flatTurn cross2 mixedTurns areaTerm polygonArea polygonTests polygonNew geofenceNew sideLength edgeSignedDistanceBy signedDistance nearest nearestBy contains badCellCount badCapacity nonFiniteParam nonPositiveSpeed negativePower badThresholdOrder outsideDuration durationOutOfRange rtlAltOutsideFence checkConfig validateConfig defaultConfig rtlWh landWh rtlEnergyAt rtlEnergy withinPosition withinVelocity validatePositionSample validateGps validatePercent validateTelemetry freshBatteryPercent freshRemainingWh freshVoltage distanceBetween withinJump acceptSample applyGlitchFilter invalidInput stageRequest gcsStage gcsClearing gcsLink rcLink gps ekf fenceApproach fenceBreach altitudeMax altitudeMin fenceFamily staleBattery batteryWarn batteryLow batteryCritical battery energyMarginal energy heldSet holdPair raisedBy raisedOf freshTriggers families linkRequests fenceRequests batteryRequests requests nextTriggers update recover applyPersistence applyFeasibility arbitrate gateOpen holdFrom evaluate soundClock clockStep freshSupervisor sense decisionOf flown step u8At numberAt u16At u32At f32At flagAt byteBelow leBytes le8 le16 le32 leF32 leFlag frameHead frameFault frameWritten actionAt reasonAt leAction leReason zeros validOption optionU8At optionU32At leOptionU32 optionF32At vec3At leVec3 optionPositionAt leOptionPosition keepsRaised configAt readConfig freshnessCells linkCells fenceCells batteryCells energyCells flightCells configCells configFrame pointAt cornersAt cornerArray asksOnceRound fenceFault cornersSent refusedFence readFence fenceRules fenceOf cornerCells sentCells fenceFrame timerAt triggersAt arbiterAt stateAt timersValid stateValid raisedRead raisedValid readState leTimer leLinks leFence leBattery leInput leTriggers leArbiter stateFrame fixAt landedAt optionGpsAt stampedF32At stampedBoolAt stampedLandedAt telemetryAt telemetryTests telemetryValid readTelemetry chargeCells statusCells telemetryCells telemetryFrame decisionFrame acceptFlight refusedFlight readFlight stepAny formOf sideFrame freshCall signChanges northSign areaFault areaCorners areaRules distanceAt bodies heldIn bodiesFit countsFit areasFrameFault areasFault bodiesOf areasFrame crane clearance clearanceAt
+computed =
+    record {
+      accepted = refl;
+      kind = refl;
+      record-is = refl;
+      order =
+          record {
+            config-frame = refl;
+            fence-frame = refl;
+            fence-rules = refl;
+            config-rules = refl;
+            state = refl;
+            telemetry = refl;
+            output = refl;
+            none = refl;
+          };
+    }
 
 room : stateSize form ≤ length slice
 unfolding slice
@@ -147,3 +164,6 @@ run-instance =
       record-is = computed .record-is;
       obeys = one-flight-claim config fence (computed .accepted) form refl slice room calls under;
     }
+
+pub refusal-order : RefusalOrder
+refusal-order = computed .order

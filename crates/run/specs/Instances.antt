@@ -1,10 +1,10 @@
--- A run on bytes that meets the premises of the claim, and its record. Lists have the latest call first. Assumes nothing.
+-- A run on bytes that meets the premises of the claim, and its record; and calls with several faults. Lists have the latest call first. Assumes nothing.
 use Prim.Native.Nat.{ℕ, _≤_}
 use mathlib.Core.Bool.{Bool, true, false}
-use mathlib.Core.List.{List, [], _∷_}
+use mathlib.Core.List.{List, [], _∷_, _++_}
 use mathlib.Core.Path.{_≡_}
 use lib.Ieee.{neg}
-use lib.ListN.{length, replicate}
+use lib.ListN.{length, set, take, replicate}
 use Rattle.types.specs.declared.Action.{Action}
 use Rattle.types.specs.declared.GpsFix.{GpsFix}
 use Rattle.types.specs.declared.LandedState.{LandedState}
@@ -28,7 +28,7 @@ use Rattle.ladder.specs.Record.{Line}
 use Rattle.supervisor.specs.Settings.{Site, fenceSite, withAreas, fedAt}
 use Rattle.flight.specs.Flight.{readFlight}
 use Rattle.calls.specs.Form.{Form, base, stateSize}
-use Rattle.calls.specs.Entry.{flightKeeps}
+use Rattle.calls.specs.Entry.{flightKeeps, stepAny, freshCall}
 use Rattle.run.specs.Run.{Call, Under, recordOfCalls, SameFlight, RunObeys}
 
 -- the frames of the default configuration and fence; a state slice longer than a frame
@@ -148,3 +148,36 @@ pub record RunInstance : Type 0 where
       ∷ []
   -- so the claim holds of it
   pub obeys : RunObeys form slice (readFlight config fence .cfg) calls
+
+-- ---- "Across: configuration frame, fence frame, fence rules, configuration rules, state, telemetry, output"
+
+-- a fence whose altitudes leave the return altitude of 30 out: its corners are accepted where all four are sent
+abbrev pub lowFence : ℕ → List ℕ
+lowFence n = fenceFrame false n (decimal 5 1) (decimal 20 1) defaultCorners
+
+abbrev pub soundState : List ℕ
+soundState = take 186 (freshCall (base false) slice .state)
+
+-- a byte is left over
+abbrev pub longState : List ℕ
+longState = soundState ++ 0 ∷ []
+
+-- the position's flag is 2
+abbrev pub flagOfTwo : List ℕ
+flagOfTwo = set (telemetryFrame (blind 0)) 8 2
+
+abbrev pub shortOutput : List ℕ
+shortOutput = replicate 94 0
+
+-- In each call all that comes later is at fault too: the number is that of the first.
+pub record RefusalOrder : Type 0 where
+  -- a fence in the place of the configuration
+  pub config-frame : stepAny false fence [] longState flagOfTwo shortOutput [] .number ≡ 2
+  -- no bytes for the fence, then two corners
+  pub fence-frame : stepAny false config [] longState flagOfTwo shortOutput [] .number ≡ 1
+  pub fence-rules : stepAny false config (lowFence 2) longState flagOfTwo shortOutput [] .number ≡ 10
+  pub config-rules : stepAny false config (lowFence 4) longState flagOfTwo shortOutput [] .number ≡ 21
+  pub state : stepAny false config fence longState flagOfTwo shortOutput [] .number ≡ 3
+  pub telemetry : stepAny false config fence soundState flagOfTwo shortOutput [] .number ≡ 4
+  pub output : stepAny false config fence soundState (telemetryFrame (blind 0)) shortOutput [] .number ≡ 5
+  pub none : stepAny false config fence soundState (telemetryFrame (blind 0)) (replicate 95 0) [] .number ≡ 0
