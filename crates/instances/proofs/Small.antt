@@ -8,7 +8,7 @@ use Rattle.types.specs.ActiveSet.{setRequest, higherRequest, requestedAction}
 use Rattle.types.specs.Vec3.{altM, horizontalDistHome}
 use Rattle.corners.specs.Acceptance.{cornerFault, samePoint, flatTurn, cross2, mixedTurns, areaTerm, polygonArea, polygonTests}
 use Rattle.geometry.specs.Polygon.{polygonNew, geofenceNew}
-use Rattle.geometry.specs.Distance.{sideLength, edgeSignedDistanceBy, signedDistance, contains}
+use Rattle.geometry.specs.Distance.{sideLength, edgeSignedDistanceBy, signedDistance, contains, nearest}
 use Rattle.config.specs.Config.{badCellCount, badCapacity, nonFiniteParam, nonPositiveSpeed, negativePower, badThresholdOrder, outsideDuration, durationOutOfRange, rtlAltOutsideFence, checkConfig}
 use Rattle.config.specs.Default.{defaultConfig, defaultFence}
 use Rattle.energy.specs.Energy.{rtlWh, landWh, rtlEnergyAt, rtlEnergy}
@@ -24,7 +24,7 @@ use Rattle.supervisor.specs.Step.{sense, disarmed, disarmedDecision, flown, ste
 use Rattle.instances.specs.Small.{SmallInstances}
 
 pub small-instances : SmallInstances
-unfolding holdMet ofInt distanceBetween withinJump acceptSample cornerFault samePoint flatTurn cross2 mixedTurns areaTerm polygonArea polygonTests polygonNew geofenceNew sideLength edgeSignedDistanceBy signedDistance contains defaultFence fabs heldSet rcLink energy add sub mul div neg lt le eq isNan ofBits round wrappingSub age fresh squareRoot isFinite fmax altM horizontalDistHome badCellCount badCapacity nonFiniteParam nonPositiveSpeed negativePower badThresholdOrder outsideDuration durationOutOfRange rtlAltOutsideFence checkConfig defaultConfig rtlWh landWh rtlEnergyAt rtlEnergy setRequest higherRequest requestedAction validateTelemetry applyGlitchFilter withoutGcsTimer update withoutRecovery applyPersistence applyFeasibility arbitrate gateOpen evaluate clockFault clockStep sense disarmed disarmedDecision flown step
+unfolding holdMet ofInt distanceBetween withinJump acceptSample cornerFault samePoint flatTurn cross2 mixedTurns areaTerm polygonArea polygonTests polygonNew geofenceNew sideLength edgeSignedDistanceBy signedDistance contains nearest defaultFence fabs heldSet rcLink energy add sub mul div neg lt le eq isNan ofBits round wrappingSub age fresh squareRoot isFinite fmax altM horizontalDistHome badCellCount badCapacity nonFiniteParam nonPositiveSpeed negativePower badThresholdOrder outsideDuration durationOutOfRange rtlAltOutsideFence checkConfig defaultConfig rtlWh landWh rtlEnergyAt rtlEnergy setRequest higherRequest requestedAction validateTelemetry applyGlitchFilter withoutGcsTimer update withoutRecovery applyPersistence applyFeasibility arbitrate gateOpen evaluate clockFault clockStep sense disarmed disarmedDecision flown step
 small-instances =
     record {
       disarm-by-fresh-false = refl;
@@ -73,6 +73,7 @@ small-instances =
       names-battery = refl;
       flat-before-convex = refl;
       inside-at-zero = refl;
+      lower-side = refl;
       short-side = refl;
       heartbeat-ahead = refl;
       heartbeat-none = refl;

@@ -25,7 +25,7 @@ use Rattle.time.specs.Time.{wrapping}
 use Rattle.corners.specs.declared.FenceError.{FenceError}
 use Rattle.corners.specs.declared.FenceResult.{FenceResult}
 use Rattle.corners.specs.Acceptance.{fenceErrorNumber, polygonFault}
-use Rattle.geometry.specs.Distance.{ringOf, edgeSignedDistance, contains}
+use Rattle.geometry.specs.Distance.{ringOf, edgeSignedDistance, contains, nearest}
 use Rattle.config.specs.declared.Config.{Config}
 use Rattle.config.specs.declared.ConfigError.{ConfigError}
 use Rattle.config.specs.declared.ConfigResult.{ConfigResult}
@@ -388,6 +388,8 @@ pub record SmallInstances : Type 0 where
   pub flat-before-convex : polygonFault false 6 flatAndDented ≡ FenceResult.Err FenceError.CollinearEdge
   -- "Inside means at least 0."
   pub inside-at-zero : contains (ringOf (defaultFence .fence .poly)) (at (wholeNumber 500) (wholeNumber 0)) ≡ true
+  -- document 02, L1: "At equal distances the lower number is given": home is 500 m from all four sides
+  pub lower-side : nearest (ringOf (defaultFence .fence .poly)) (at (wholeNumber 0) (wholeNumber 0)) .side ≡ 0
   -- "below 1e-6 length gives −1": a side of 1e-7 m; by its line the point would be 5 m inside
   pub short-side : edgeSignedDistance (at (neg (wholeNumber 5)) (wholeNumber 0)) (at (wholeNumber 0) (wholeNumber 0), at (wholeNumber 0) (bits 0x33D6_BF95)) ≡ neg (wholeNumber 1)
   -- triggers.rs: `.map(|hb| age_ms(now_ms, hb).unwrap_or(u32::MAX))`: a heartbeat from ahead is as good as none
