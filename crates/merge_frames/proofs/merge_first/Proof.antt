@@ -1,5 +1,6 @@
 -- `merge_frames::merge_first` meets its contract. Assumes nothing.
-use mathlib.Core.Path.{refl}
+use mathlib.Core.Path.{_≡_, refl, sym, _∙_}
+use Rattle.frame_telemetry.specs.TelemetryFrame.{readTelemetry}
 use borrow.Author.Needs.{needs}
 use Rattle.merge_frames.proofs.merge_first.Statement.{statement}
 use Rattle.merge_frames.proofs.merge_first.Tie as tie
@@ -20,13 +21,19 @@ merge-second-requires : tie.Need-merge-second-requires
 merge-second-requires c κs = search needs
 
 returns : tie.Need-returns
-returns c = rw (← c .before .before .before .read-telemetry .ensures, c .before .n .given .1) (refl, refl)
+returns c =
+    let args = c .before .before .before .before .before .before .before .args in
+    let read : readTelemetry (args .first .now) ≡ _ = sym (c .before .before .before .read-telemetry .ensures) ∙ c .before .n .given .1 in
+    rw read (refl, refl)
 
 same-length : tie.Need-same-length
 same-length c = search needs
 
 returns-2 : tie.Need-returns-2
-returns-2 c = rw (← c .before .before .before .before .before .before .before .read-telemetry .ensures, c .before .before .before .before .before .a .given .1) (c .before .before .merge-second .ensures)
+returns-2 c =
+    let args = c .before .before .before .before .before .before .before .before .before .before .before .args in
+    let read : readTelemetry (args .first .now) ≡ _ = sym (c .before .before .before .before .before .before .before .read-telemetry .ensures) ∙ c .before .before .before .before .before .a .given .1 in
+    rw read (c .before .before .merge-second .ensures)
 
 pub merge-first-spec : {M : Type 1} → statement M
 merge-first-spec =

@@ -20,11 +20,15 @@ same-length c = search needs
 
 returns : tie.Need-returns
 unfolding mergeRead
-returns c = rw (eq-eqb _ _ (c .before .before .before .before .before .if1 .taken), ← c .before .before .before .before .merge-telemetry .ensures) (c .before .before .write-telemetry .ensures)
+returns c =
+    let args = c .before .before .before .before .before .before .before .before .before .args in
+    rw (eq-eqb (args .a .«now_ms») (args .b .«now_ms») (c .before .before .before .before .before .if1 .taken), ← c .before .before .before .before .merge-telemetry .ensures) (c .before .before .write-telemetry .ensures)
 
 returns-2 : tie.Need-returns-2
 unfolding mergeRead
-returns-2 c = rw (ne-eqb _ _ (c .if1 .left)) (refl, refl)
+returns-2 c =
+    let args = c .before .before .before .before .args in
+    rw (ne-eqb (args .a .«now_ms») (args .b .«now_ms») (c .if1 .left)) (refl, refl)
 
 pub merge-read-spec : {M : Type 1} → statement M
 merge-read-spec =
