@@ -1,5 +1,4 @@
 -- The proofs of the laws of the frames with instants in eight bytes.
-pub mod Rows
 pub mod Instant
 pub mod Resized
 pub mod Readings
