@@ -1,0 +1,4 @@
+-- The instances on bytes.
+pub mod Frames
+pub mod Written
+pub mod Answers
