@@ -23,6 +23,7 @@ frame-instances =
       length-of-kind-and-body = refl;
       short-by-its-own-length = refl;
       kind-before-length = refl;
+      another-kind = refl;
       flag-of-an-option = refl;
       length-of-the-count = refl;
       seventeen-read = refl;

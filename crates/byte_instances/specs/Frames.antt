@@ -72,6 +72,7 @@ pub record FrameInstances : Type 0 where
   pub length-of-kind-and-body : wholeFrame (2 ∷ 0 ∷ 3 ∷ 0 ∷ []) ≡ 4
   pub short-by-its-own-length : frameFault 3 104 (2 ∷ 0 ∷ 3 ∷ 0 ∷ []) ≡ 3
   pub kind-before-length : frameFault 3 104 (2 ∷ 0 ∷ 4 ∷ 0 ∷ []) ≡ 2
+  pub another-kind : frameFault 3 104 (changed telemetry 2 (4 ∷ [])) ≡ 2
   -- "Option a byte 0 or 1"
   pub flag-of-an-option : validOption (2 ∷ 0 ∷ 0 ∷ 0 ∷ 0 ∷ []) 0 4 ≡ false
   -- fences: the length due is that of the count sent, kind and count byte included; the count sent is judged, not the corners kept; the polygon's rules before the
