@@ -2,13 +2,13 @@
 use Prim.Native.Nat.{ℕ, zero, suc}
 use native.Mathlib.Omega.{arith}
 use mathlib.Core.Path.{_≡_, refl, sym, ap, subst, _∙_}
-use mathlib.Core.Bool.{Bool, true, false, cond}
+use mathlib.Core.Bool.{Bool, true, false, _&&_, cond}
 use mathlib.Core.Logic.{_⊎_, inl, inr, _↔_}
 use mathlib.Core.List.{List, [], _∷_}
 use lib.Dec.{eqb, eqb·suc-zero}
 use lib.ListN.{length}
 use Rattle.areas.specs.Held.{Area, Rules, held, Among, holds, place, without, areaFault, taken, answer, add, remove, andThen, addEach, read}
-use Rattle.areas.specs.Calls.{Call, adds, removes, Line, called, code, kept, heldAfter, history, concerns, StillPresent}
+use Rattle.areas.specs.Calls.{Call, adds, removes, Line, called, code, kept, heldAfter, history, numberOf, concerns, StillPresent}
 use Rattle.areas.specs.Claim.{HeldArePresent, FreshList, ReadGivesBack, ReadExactly, AgainAccepted}
 use Rattle.areas.proofs.Lists.{or-false, unlike, all-map, place-among, among-place, without-among, among-without, rising-unique}
 use Rattle.areas.proofs.Good.{Good, Clear, clear, never, held-inj, good-none, good-place, good-without, each-good, read-good, read-as}
@@ -44,7 +44,7 @@ module _ {P : Type 0} (r : Rules P) where
   passed c n l h s = record { good = s .good; same = λ b. ((λ i. inr (unconcerned b, s .same b .0 i)), back b) }
     where
       unconcerned : (b : Area P) → concerns (b .number) (line c (suc n)) ≡ false
-      unconcerned b = rw (eqb·suc-zero n)
+      unconcerned b = ap (λ (accepted : Bool). accepted && eqb (b .number) (numberOf c)) (eqb·suc-zero n)
 
       back : (b : Area P) → StillPresent b (line c (suc n) ∷ h) → Among b l
       back b (inl e) = not-refused c (adds b) n e

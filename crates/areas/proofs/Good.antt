@@ -1,7 +1,7 @@
 -- What every list of areas held meets, and that such a list is accepted again, added or read. Assumes nothing.
 use Prim.Native.Nat.{ℕ, zero, suc, _≤_, _<_}
 use native.Mathlib.Omega.{arith}
-use mathlib.Core.Path.{_≡_, refl, sym, subst, _∙_}
+use mathlib.Core.Path.{_≡_, refl, sym, ap, subst, _∙_}
 use mathlib.Core.Bool.{Bool, true, false, not, _||_, cond}
 use mathlib.Core.List.{List, [], _∷_, _++_, append-nil, append-assoc}
 use lib.Dec.{ltb, eqb}
@@ -112,7 +112,8 @@ module _ {P : Type 0} (r : Rules P) where
   read-good n u [] g h = rw append-nil
   read-good n u (a ∷ v) g h =
       let k : Good r ((u ++ (a ∷ [])) ++ v) = rw append-assoc g in
-      rw (read-next n u a v g (h .0)) (rw append-assoc at (read-good (a .number) (u ++ (a ∷ [])) v k (rising-right u (a ∷ v) (g .rising) .0)))
+      let onward : readFrom r (a .number) (u ++ (a ∷ [])) v ≡ held (u ++ a ∷ v) = rw append-assoc at (read-good (a .number) (u ++ (a ∷ [])) v k (rising-right u (a ∷ v) (g .rising) .0)) in
+      ap (λ (f : Answer P). andThen f (λ k. readFrom r (a .number) k v)) (read-next n u a v g (h .0)) ∙ onward
 
   -- ---- what is read is good
   pub record ReadAs (m l : List (Area P)) : Type 0 where

@@ -230,7 +230,7 @@ no-nan (inf s) h = tt
 no-nan (fin s m e) h = tt
 
 -- each timer of a row that holds
-timer-valid : (s : List ℕ) (n k : ℕ) → k < n → timersValid s n ≡ true → validOption s (6 + 5 * k) 4 ≡ true
+pub timer-valid : (s : List ℕ) (n k : ℕ) → k < n → timersValid s n ≡ true → validOption s (6 + 5 * k) 4 ≡ true
 unfolding timersValid
 timer-valid s zero k h v = absurd (omega arith)
 timer-valid s (suc n) k h v = at (λ l. timer-valid s n k l (first (timersValid s n) (validOption s (6 + 5 * n) 4) v)) (eqb k n) refl

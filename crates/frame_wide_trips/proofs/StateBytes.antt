@@ -1,12 +1,10 @@
 -- A kind 10 read and written again. Assumes nothing.
-use Prim.Native.Nat.{ℕ, zero, suc, _+_, _*_, _^_, _<_, min}
-use mathlib.Core.Path.{_≡_, _∙_, ap, refl, sym, subst}
-use mathlib.Core.Bool.{Bool, true, false, cond, _&&_}
+use Prim.Native.Nat.{ℕ, _+_, _*_, _^_, _<_}
+use mathlib.Core.Path.{_≡_, _∙_, ap, sym, subst}
+use mathlib.Core.Bool.{true, false, _&&_}
 use mathlib.Core.List.{List, [], _∷_, _++_}
-use native.Mathlib.Omega.{arith}
-use lib.Dec.{eqb, lit<}
-use lib.ListN.{length, drop, replicate}
-use borrow.Author.Tests.{eqb-true, eqb-false}
+use lib.Dec.{lit<}
+use lib.ListN.{drop, replicate}
 use Rattle.types.specs.declared.OptionU32.{OptionU32}
 use Rattle.types.specs.declared.OptionPositionSample.{OptionPositionSample}
 use Rattle.triggers.specs.Update.{noneRaised}
@@ -16,13 +14,13 @@ use Rattle.wire.specs.Cell.{Within}
 use Rattle.wire.specs.Frame.{frameFault, frameHead}
 use Rattle.wire.proofs.Head.{head-says, head-bytes}
 use Rattle.wire.proofs.Number.{number-bytes}
-use Rattle.wire.proofs.Whole.{first, second, whole, each}
+use Rattle.wire.proofs.Whole.{first, whole, each}
 use Rattle.options.specs.Options.{zeros, validOption}
 use Rattle.options.specs.Position.{positionCells}
 use Rattle.frame_state.specs.declared.StateRead.the-variants.{Frame}
-use Rattle.frame_state.specs.StateFrame.{stateAt, timersValid, stateTests, stateValid, readState, stateFrame}
-use Rattle.frame_state.proofs.Trips.{bytes-back, read-typed}
-use Rattle.instants.specs.Retimed.{TimerName, gcsClear, rcClear, gpsDegSet, gpsDegClear, gpsLostSet, gpsLostClear, ekfSet, ekfClear, breachSet, breachClear, altMaxSet, altMaxClear, altMinSet, altMinClear, staleClear, warnSet, warnClear, lowSet, lowClear, critSet, margSet, margClear, infeasSet, invalidClear, rcSet, timerOf, positionAt, supervisorAt}
+use Rattle.frame_state.specs.StateFrame.{stateAt, timersValid, stateTests, stateValid, readState}
+use Rattle.frame_state.proofs.Trips.{timer-valid, bytes-back, read-typed}
+use Rattle.instants.specs.Retimed.{timerOf, positionAt, supervisorAt}
 use Rattle.instants.specs.Own.{own}
 use Rattle.instants.specs.Listed.{timerPlace, listed, unlisted}
 use Rattle.frame_wide.specs.Resized.{instantsAt, narrowed, widened}
@@ -33,16 +31,6 @@ use Rattle.frame_wide_trips.proofs.Resized.{bytes-on, instants-lt, eigh
 use Rattle.frame_wide_trips.proofs.StateMarks.{frame-on, opened}
 use Rattle.frame_wide_trips.proofs.Written.{written}
 use Rattle.frame_wide_trips.proofs.Flags.{accepted, wide-accepted, timer-instead}
-
--- each timer of a row that holds
-timer-valid : (s : List ℕ) (n k : ℕ) → k < n → timersValid s n ≡ true → validOption s (6 + 5 * k) 4 ≡ true
-unfolding timersValid
-timer-valid s zero k h v = absurd (omega arith)
-timer-valid s (suc n) k h v = at (λ l. timer-valid s n k l (first (timersValid s n) (validOption s (6 + 5 * n) 4) v)) (eqb k n) refl
-  where
-    at : (k < n → validOption s (6 + 5 * k) 4 ≡ true) → (b : Bool) → eqb k n ≡ b → validOption s (6 + 5 * k) 4 ≡ true
-    at rest true e = ap (λ (m : ℕ). validOption s (6 + 5 * m) 4) (eqb-true k n e) ∙ second (timersValid s n) (validOption s (6 + 5 * n) 4) v
-    at rest false e = let d = eqb-false k n e in rest (omega arith)
 
 module _ (s : List ℕ) (b : Bytes s) (h : frameFault 10 304 s ≡ 0) where
   abbrev all : List ℕ

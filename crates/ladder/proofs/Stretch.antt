@@ -1,6 +1,6 @@
 -- The search for the earliest step of a quiet stretch, step by step: it goes on from the stretch of the step before, or begins. Assumes nothing.
 use Prim.Native.Nat.{ℕ, zero, suc}
-use mathlib.Core.Path.{_≡_, refl, _∙_}
+use mathlib.Core.Path.{_≡_, refl, ap, _∙_}
 use mathlib.Core.Bool.{Bool, true, false, not, _&&_, _||_, cond, and-false}
 use mathlib.Core.List.{List, [], _∷_, map}
 use lib.ListN.{length, take}
@@ -81,7 +81,9 @@ cond-and false s x = refl
 -- a search from n + 1 steps before k is one from n steps before the step before it, or k alone
 back : (n : ℕ) (k : Step) (i : Earlier) (before : List Earlier) → earliest (suc n) k (i ∷ before) ≡ orElse (cond (holdable k && passable i) (earliest n (i .step) before) OptionU32.None) (only k)
 unfolding earliest
-back zero k i before = rw (one-fewer, alone k) (cond-or-none (holdable k && passable i) (quiet (i .step) []) (i .step .now) (only k))
+back zero k i before =
+    ap (λ (q : Bool). cond q (OptionU32.Some (i .step .now)) (earliest zero k before)) (one-fewer k i [])
+    ∙ rw (alone k) (cond-or-none (holdable k && passable i) (quiet (i .step) []) (i .step .now) (only k))
 back (suc n) k i before = rw (one-fewer, back n k i before) (cond-or (holdable k && passable i) (quiet (i .step) (take (suc n) before)) _ _ (only k))
 
 -- the stretch that a next step goes on with

@@ -9,8 +9,9 @@ use lib.Seq.{take-all}
 use borrow.Author.Tests.{eq-eqb, ne-eqb}
 use Rattle.frame_config.specs.ConfigFrame.{keepsRaised, configAt}
 use Rattle.frame_config.proofs.Accepted.{length-due}
+use Rattle.frame_areas.specs.AreasFrame.{areasFault}
 use Rattle.frame_fence.specs.declared.FenceRead.{FenceRead}
-use Rattle.flight.specs.Flight.{acceptFlight, refusedFlight, readFlight}
+use Rattle.flight.specs.Flight.{orRefused, acceptFlight, refusedFlight, readFlight}
 use Rattle.flight.proofs.Read.{config-refused, fence-refused, flight-read}
 use Rattle.calls.specs.Form.{formOf}
 use Rattle.calls.specs.Entry.{StepCall, declined, stepAny, stepOrCheck}
@@ -45,6 +46,10 @@ flight-is c =
     c .accept-frame .ensures
     ∙ (λ i. acceptFlight (configAt (t i) (keepsRaised (t i))) (e i))
     ∙ sym (flight-read s (now (a .fence)) h (ap (λ (r : FenceRead). r .refused) (sym e) ∙ c .before .before .if2 .left))
+
+-- the refusal that is found first is that of the flight, or else of the areas
+refusal-is : (c : tie.After-first-refusal) → c .first-refusal .result ≡ orRefused (c .before .accept-frame .result .refused) (areasFault (now (c .before .before .before .before .before .before .before .before .before .before .before .before .before .args .areas)))
+refusal-is c = c .first-refusal .ensures
 
 config-fault-requires : tie.Need-config-fault-requires
 config-fault-requires c κs = search needs
@@ -96,11 +101,11 @@ unfolding stepAny stepOrCheck
 returns-3 c =
     let a = c .before .before .before .before .before .before .before .before .before .before .before .before .before .before .args in
     let n = c .before .first-refusal in
-    rw (← flight-is (c .before .before), ← n .ensures, ne-eqb _ _ (c .if3 .taken), either-way (a .checking) (declined (n .result) (now (a .state)) (now (a .output)))) (refl, (refl, refl))
+    rw (← flight-is (c .before .before), ← refusal-is (c .before), ne-eqb _ _ (c .if3 .taken), either-way (a .checking) (declined (n .result) (now (a .state)) (now (a .output)))) (refl, (refl, refl))
 
 returns-4 : tie.Need-returns-4
 unfolding stepAny stepOrCheck
-returns-4 c = rw (← flight-is (c .before .before .before), ← c .before .before .first-refusal .ensures, c .if4 .taken) (sym (c .before .if3 .left), (refl, refl))
+returns-4 c = rw (← flight-is (c .before .before .before), ← refusal-is (c .before .before), c .if4 .taken) (sym (c .before .if3 .left), (refl, refl))
 
 is-wide-requires : tie.Need-is-wide-requires
 is-wide-requires c κs = search needs
@@ -122,7 +127,7 @@ same-length-2 c = search needs
 
 returns-5 : tie.Need-returns-5
 unfolding stepAny stepOrCheck formOf
-returns-5 c = rw (← flight-is (c .before .before .before .before .before .before .before .before .before .before .before .before .before .before), ← c .before .before .before .before .before .before .before .before .before .before .before .before .before .first-refusal .ensures, eq-eqb _ _ (c .before .before .before .before .before .before .before .before .before .before .before .before .if3 .left), c .before .before .before .before .before .before .before .before .before .before .before .if4 .left, ← c .before .before .before .before .before .before .before .before .before .is-wide .ensures, c .before .before .before .before .before .before .before .before .if5 .taken, c .before .before .before .before .before .before .before .if6 .taken) (c .before .before .before .before .step-wide .ensures)
+returns-5 c = rw (← flight-is (c .before .before .before .before .before .before .before .before .before .before .before .before .before .before), ← refusal-is (c .before .before .before .before .before .before .before .before .before .before .before .before .before), eq-eqb _ _ (c .before .before .before .before .before .before .before .before .before .before .before .before .if3 .left), c .before .before .before .before .before .before .before .before .before .before .before .if4 .left, ← c .before .before .before .before .before .before .before .before .before .is-wide .ensures, c .before .before .before .before .before .before .before .before .if5 .taken, c .before .before .before .before .before .before .before .if6 .taken) (c .before .before .before .before .step-wide .ensures)
 
 same-length-3 : tie.Need-same-length-3
 same-length-3 c = search needs
@@ -132,7 +137,7 @@ same-length-4 c = search needs
 
 returns-6 : tie.Need-returns-6
 unfolding stepAny stepOrCheck formOf
-returns-6 c = rw (← flight-is (c .before .before .before .before .before .before .before .before .before .before .before .before .before .before), ← c .before .before .before .before .before .before .before .before .before .before .before .before .before .first-refusal .ensures, eq-eqb _ _ (c .before .before .before .before .before .before .before .before .before .before .before .before .if3 .left), c .before .before .before .before .before .before .before .before .before .before .before .if4 .left, ← c .before .before .before .before .before .before .before .before .before .is-wide .ensures, c .before .before .before .before .before .before .before .before .if5 .taken, c .before .before .before .before .before .before .before .if6 .left) (c .before .before .before .before .step-wide2 .ensures)
+returns-6 c = rw (← flight-is (c .before .before .before .before .before .before .before .before .before .before .before .before .before .before), ← refusal-is (c .before .before .before .before .before .before .before .before .before .before .before .before .before), eq-eqb _ _ (c .before .before .before .before .before .before .before .before .before .before .before .before .if3 .left), c .before .before .before .before .before .before .before .before .before .before .before .if4 .left, ← c .before .before .before .before .before .before .before .before .before .is-wide .ensures, c .before .before .before .before .before .before .before .before .if5 .taken, c .before .before .before .before .before .before .before .if6 .left) (c .before .before .before .before .step-wide2 .ensures)
 
 same-length-5 : tie.Need-same-length-5
 same-length-5 c = search needs
@@ -142,7 +147,7 @@ same-length-6 c = search needs
 
 returns-7 : tie.Need-returns-7
 unfolding stepAny stepOrCheck formOf
-returns-7 c = rw (← flight-is (c .before .before .before .before .before .before .before .before .before .before .before .before .before), ← c .before .before .before .before .before .before .before .before .before .before .before .before .first-refusal .ensures, eq-eqb _ _ (c .before .before .before .before .before .before .before .before .before .before .before .if3 .left), c .before .before .before .before .before .before .before .before .before .before .if4 .left, ← c .before .before .before .before .before .before .before .before .is-wide .ensures, c .before .before .before .before .before .before .before .if5 .left) (c .before .before .before .before .step-state .ensures)
+returns-7 c = rw (← flight-is (c .before .before .before .before .before .before .before .before .before .before .before .before .before), ← refusal-is (c .before .before .before .before .before .before .before .before .before .before .before .before), eq-eqb _ _ (c .before .before .before .before .before .before .before .before .before .before .before .if3 .left), c .before .before .before .before .before .before .before .before .before .before .if4 .left, ← c .before .before .before .before .before .before .before .before .is-wide .ensures, c .before .before .before .before .before .before .before .if5 .left) (c .before .before .before .before .step-state .ensures)
 
 pub step-or-check-spec : {M : Type 1} → statement M
 step-or-check-spec =

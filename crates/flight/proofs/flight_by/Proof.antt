@@ -1,5 +1,6 @@
 -- `flight::flight_by` meets its contract. Assumes nothing.
-use Rattle.flight.specs.Flight.{flightBy}
+use mathlib.Core.Path.{ap, ap₂, _∙_}
+use Rattle.flight.specs.Flight.{orRefused, configNumber, flightBy}
 use borrow.Author.Needs.{needs}
 use Rattle.flight.proofs.flight_by.Statement.{statement}
 use Rattle.flight.proofs.flight_by.Tie as tie
@@ -18,7 +19,11 @@ or-refused-requires c κs = search needs
 
 returns : tie.Need-returns
 unfolding flightBy
-returns c = rw (← c .before .before .before .check-config .ensures, ← c .before .before .fence-number .ensures, ← c .before .config-number .ensures, ← c .or-refused .ensures)
+returns c =
+    let given = c .before .before .before .before .before .args in
+    let first = c .before .before .fence-number .ensures in
+    let second = c .before .config-number .ensures ∙ ap configNumber (c .before .before .before .check-config .ensures) in
+    ap (λ n. record { refused = n; cfg = given .cfg; fence = given .made .fence; lengths = given .lengths }) (c .or-refused .ensures ∙ ap₂ orRefused first second)
 
 pub flight-by-spec : {M : Type 1} → statement M
 flight-by-spec =

@@ -15,7 +15,13 @@ stamped-f32-of-requires-3 c κs = search needs
 
 returns : tie.Need-returns
 unfolding batteryOf
-returns c = rw (← c .before .before .stamped-f32-of .ensures, ← c .before .stamped-f32-of2 .ensures, ← c .stamped-f32-of3 .ensures)
+returns c =
+    λ q.
+    record {
+      «voltage_v» = c .before .before .stamped-f32-of .ensures q;
+      percent = c .before .stamped-f32-of2 .ensures q;
+      «remaining_wh» = c .stamped-f32-of3 .ensures q;
+    }
 
 pub battery-of-spec : {M : Type 1} → statement M
 battery-of-spec =

@@ -1,4 +1,5 @@
 -- `triggers::fence_held` meets its contract. Assumes nothing.
+use mathlib.Core.Bool.{false}
 use Rattle.triggers.specs.Families.{fence}
 use borrow.Author.Needs.{needs}
 use Rattle.triggers.proofs.fence_held.Statement.{statement}
@@ -37,7 +38,16 @@ returns c = rw (c .before .before .before .before .before .place .given .1, ← 
 
 returns-2 : tie.Need-returns-2
 unfolding fence
-returns-2 c = rw (c .before .before .before .enum-told .given .1, ← c .before .before .rested .ensures, ← c .before .rested2 .ensures, ← c .rested3 .ensures)
+returns-2 c =
+    rw
+    (c .before .before .before .enum-told .given .1)
+    (λ q.
+    record {
+      approach = false;
+      breach = c .before .before .rested .ensures q;
+      «alt_max» = c .before .rested2 .ensures q;
+      «alt_min» = c .rested3 .ensures q;
+    })
 
 pub fence-held-spec : {M : Type 1} → statement M
 fence-held-spec =

@@ -1,4 +1,5 @@
 -- `triggers::rc_link` meets its contract. Assumes nothing.
+use mathlib.Core.Bool.{false, not, _&&_}
 use Rattle.triggers.specs.Families.{rcLink}
 use borrow.Author.Needs.{needs}
 use Rattle.triggers.proofs.rc_link.Statement.{statement}
@@ -19,7 +20,18 @@ pending-requires c κs = search needs
 
 returns-2 : tie.Need-returns-2
 unfolding rcLink
-returns-2 c = rw (← c .before .before .before .before .before .before .held-set .ensures, c .before .before .before .before .if1 .left, ← c .before .before .before .held-set2 .ensures, ← c .before .pending .ensures)
+returns-2 c =
+    let s = c .before .before .before .before .before .before .held-set in
+    let d = c .before .before .before .held-set2 in
+    rw
+    (← s .ensures, c .before .before .before .before .if1 .left, ← d .ensures)
+    (λ q.
+    record {
+      set = s .result .timer;
+      clear = d .result .timer;
+      lost = c .before .pending .ensures q && not (d .result .met);
+      met = false;
+    })
 
 pub rc-link-spec : {M : Type 1} → statement M
 rc-link-spec =
