@@ -29,6 +29,8 @@ else
     fi
 fi
 
+# It has crates of its own, which `rt check` would take for lost ones: so it goes when the test ends.
+trap 'rm -rf "$build/bent"' EXIT
 rm -rf "$build/bent"
 mkdir -p "$build/bent"
 cp -r crates docs examples include tools "$build/bent/"
