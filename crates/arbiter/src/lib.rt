@@ -1,11 +1,12 @@
 // The Rust's arbiter.rs: latches, persistence, feasibility.
+#![tactic(auto)]
 ghost use Rattle.std.specs.Prelude.{◌≡◌};
 ghost use Rattle.time.specs.Time.{wrapping};
 ghost use Rattle.arbiter.specs.Arbiter.{fresh_arbiter, without_recovery, wanted, apply_persistence, apply_feasibility, arbitrate, previous, recovery_start, recover, shown, needs_position};
 
 use types::{Action, OptionU32, Reason, Request};
 
-#[derive(Drop)]
+#[derive(Clone, Copy)]
 pub struct ArbiterState {
     pub prev_output: Action,
     pub prev_reason: Reason,
@@ -13,7 +14,7 @@ pub struct ArbiterState {
 }
 
 // The request that is shown, and the state after it.
-#[derive(Drop)]
+#[derive(Clone, Copy)]
 pub struct Arbitrated {
     pub state: ArbiterState,
     pub output: Request,

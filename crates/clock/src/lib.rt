@@ -1,4 +1,5 @@
 // The Rust's clock rule, in lib.rs: which reading is a fault, and which fault a third in a row.
+#![tactic(auto)]
 ghost use Rattle.std.specs.Prelude.{◌≡◌};
 ghost use Rattle.time.specs.Time.{wrapping};
 ghost use Rattle.clock.specs.Clock.{clock_fault, sound_clock, clock_step};
@@ -6,7 +7,7 @@ ghost use Rattle.clock.specs.Clock.{clock_fault, sound_clock, clock_step};
 use types::OptionU32;
 
 // The clock after a reading: whether the reading is a fault, and whether a third one in a row.
-#[derive(Drop)]
+#[derive(Clone, Copy)]
 pub struct ClockStep {
     pub last_now: OptionU32,
     pub epoch_start: u32,

@@ -1,4 +1,5 @@
 // The Rust's config.rs: the settings, their rules, the defaults.
+#![tactic(auto)]
 ghost use Rattle.std.specs.Prelude.{◌≡◌};
 ghost use Rattle.config.specs.Config.{config_error_number, bad_cell_count, bad_capacity, non_finite_param, non_positive_speed, negative_power, bad_threshold_order, duration_out_of_range, outside_duration, rtl_alt_outside_fence, check_config, validate_config};
 ghost use Rattle.config.specs.Default.{default_config, default_fence};
@@ -7,7 +8,7 @@ use corners::FenceError;
 use geometry::{ConvexPolygon, Geofence, GeofenceResult};
 use types::Point2;
 
-#[derive(Drop)]
+#[derive(Clone, Copy)]
 pub struct Config {
     pub cell_count: u8,
     pub usable_capacity_wh: f32,
@@ -147,7 +148,7 @@ impl Config {
     }
 }
 
-#[derive(Drop)]
+#[derive(Clone, Copy)]
 pub enum ConfigError {
     Fence(FenceError),
     HomeOutsideFence,
@@ -162,7 +163,7 @@ pub enum ConfigError {
 }
 
 // Result<(), ConfigError>.
-#[derive(Drop)]
+#[derive(Clone, Copy)]
 pub enum ConfigResult {
     Ok,
     Err(ConfigError),

@@ -1,4 +1,5 @@
 // Which corners a fence or an area may have: the rules of the Rust's geometry.rs, and the rule of kind 8.
+#![tactic(auto)]
 ghost use Rattle.std.specs.Prelude.{◌≡◌, ◌≤◌, min, ◌&&◌, ltb, take};
 ghost use Rattle.corners.specs.Ring.{any_meets, tails};
 ghost use Rattle.corners.specs.Round.{place, failed, round_of};
@@ -7,7 +8,7 @@ ghost use Rattle.corners.specs.OnceRound.{north_sign, differ, join_if, sign_chan
 
 use types::Point2;
 
-#[derive(Drop)]
+#[derive(Clone, Copy)]
 pub enum FenceError {
     TooFewVertices,
     TooManyVertices,
@@ -51,7 +52,7 @@ impl FenceError {
 }
 
 // Result<(), FenceError>; what is accepted stands beside it.
-#[derive(Drop)]
+#[derive(Clone, Copy)]
 pub enum FenceResult {
     Ok,
     Err(FenceError),
@@ -80,7 +81,7 @@ pub fn fault_if(test: bool, e: FenceError) -> FenceResult
 }
 
 // What one way round a polygon's corners tells: whether a corner has a fault, a turn is flat, goes left, goes right; the area.
-#[derive(Drop)]
+#[derive(Clone, Copy)]
 struct Round {
     failed: bool,
     flat: bool,
@@ -90,7 +91,7 @@ struct Round {
 }
 
 // The signs of the north steps so far: whether there is one, the first, the last, and how often they changed.
-#[derive(Drop)]
+#[derive(Clone, Copy)]
 struct Signs {
     started: bool,
     first: u8,
@@ -99,7 +100,7 @@ struct Signs {
 }
 
 // The first error of some corners, and the area that they enclose.
-#[derive(Drop)]
+#[derive(Clone, Copy)]
 pub struct Judged {
     pub result: FenceResult,
     pub area: f32,

@@ -2,6 +2,7 @@
 // standard input; frames of kind 4, and of kind 255 for a refusal, to standard output. The work is in the crates `stream` and `decided`,
 // which says what is written for the whole input; here is input and output in blocks. No contract can say what is read or written:
 // these functions say where a turn leaves the program, whatever it read.
+#![tactic(auto)]
 ghost use Rattle.std.specs.Prelude.{true, ◌++◌, ◌≡◌, ◌≤◌, length, take, drop, ltb};
 ghost use Rattle.std.proofs.Math.Seq.{slice};
 ghost use Rattle.decided.specs.Program.{pending, next, newly};

@@ -1,6 +1,7 @@
 // The program `decide` but for its reading and writing: a turn on the bytes that were read, and moving the rest of them to the front of
 // their block. specs/Decided.antt says what is written for the whole input, specs/Program.antt that it doesn't matter how the input is
 // cut into blocks.
+#![tactic(auto)]
 ghost use Rattle.std.specs.Prelude.{◌≡◌, ◌≤◌, length};
 ghost use Rattle.std.proofs.Math.Seq.{slice};
 ghost use Rattle.wire.specs.Frame.{frame_written};
@@ -11,7 +12,7 @@ use stream::Session;
 
 // What is kept between two turns: the session, the place in the input block of the bytes that were read and not yet answered, and
 // whether to go on.
-#[derive(Drop)]
+#[derive(Clone, Copy)]
 pub struct Kept {
     pub session: Session,
     pub from: usize,
@@ -20,7 +21,7 @@ pub struct Kept {
 }
 
 // The session after a turn, how many bytes of the input were answered, and how many bytes were put.
-#[derive(Drop)]
+#[derive(Clone, Copy)]
 pub struct Turn {
     pub session: Session,
     pub taken: usize,

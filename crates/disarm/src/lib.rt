@@ -1,4 +1,5 @@
 // The Rust's disarm.rs: when the motors may be stopped. The gate goes in by value and comes back; its lent form stands last.
+#![tactic(auto)]
 ghost use Rattle.std.specs.Prelude.{◌≡◌};
 ghost use Rattle.time.specs.Time.{wrapping};
 ghost use Rattle.disarm.specs.Disarm.{closed, is_land, on_ground, gate_open, hold_from, evaluate};
@@ -7,12 +8,12 @@ use types::{
     Action, LandedState, OptionLandedState, OptionStampedBool, OptionStampedLandedState, OptionU32,
 };
 
-#[derive(Drop)]
+#[derive(Clone, Copy)]
 pub struct DisarmGate {
     pub hold_since_ms: OptionU32,
 }
 
-#[derive(Drop)]
+#[derive(Clone, Copy)]
 pub struct Evaluated {
     pub gate: DisarmGate,
     pub eligible: bool,

@@ -1,4 +1,5 @@
 // Adding a keep-out area to those held, and removing one: from slice to slice, body by body as sent.
+#![tactic(auto)]
 ghost use Rattle.std.specs.Prelude.{◌≡◌, true, ◌||◌, ◌++◌, ◌+◌, ◌<◌, ◌≤◌, eqb, length, drop};
 ghost use Rattle.std.proofs.lemmas.List.Edits.{sets};
 ghost use Rattle.wire.specs.Fields.{u8_at};
@@ -10,7 +11,7 @@ ghost use Rattle.edit_areas.specs.Edit.{write_call, add_call, remove_call};
 ghost use Rattle.edit_areas.specs.Cut.{place_of, framed};
 
 // Where the first body whose number is not below a given one begins, or the end; and whether it has that number.
-#[derive(Drop)]
+#[derive(Clone, Copy)]
 struct Place {
     at: usize,
     held: bool,

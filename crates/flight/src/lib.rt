@@ -1,4 +1,5 @@
 // Configuration and fence of a flight: read, and accepted or refused, in document 01's order.
+#![tactic(auto)]
 ghost use Rattle.std.specs.Prelude.{◌≡◌};
 ghost use Rattle.config.specs.Config.{home};
 ghost use Rattle.geometry.specs.Distance.{ring_of, side_lengths, nearest_by};
@@ -13,7 +14,7 @@ use types::{Point2, Telemetry};
 
 // A configuration and a fence, with the lengths of the fence's sides: accepted where `refused` is 0, else the number of the
 // first refusal.
-#[derive(Drop)]
+#[derive(Clone, Copy)]
 pub struct Flight {
     pub refused: u16,
     pub cfg: Config,

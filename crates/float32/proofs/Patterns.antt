@@ -147,14 +147,14 @@ level_zero true a b p q = and_i (eqb a b) (eqb a 0) (eq→eqb (p ∙ sym q)) (eq
 below_positive : (m : ℕ) (d : ℤ) → 0 * 1 * down d < suc m * up d * 1
 below_positive m d = lt_of_le_of_lt (le_of_eq (ap (λ (z : ℕ). z * down d) (zero-mul 1) ∙ zero-mul (down d))) (mul-pos (mul-pos (zero-lt-suc m) (up_pos d)) (zero-lt-suc 0))
 
-pub is_nan : (x : Float) → eq x (of_bits binary32 0) ≡ false → lt (of_bits binary32 0) x ≡ false → square_root x ≡ nan
+pub is_nan_lem : (x : Float) → eq x (of_bits binary32 0) ≡ false → lt (of_bits binary32 0) x ≡ false → square_root x ≡ nan
 unfolding eq lt of_bits square_root
-is_nan nan e l = refl
-is_nan (inf true) e l = refl
-is_nan (inf false) e l = absurd (true≢false l)
-is_nan (fin s zero d) e l = absurd (subst T e (level_zero s (0 * up d * 1) (0 * 1 * down d) (omega (arith, zero-mul (up d))) (omega (arith, zero-mul (down d)))))
-is_nan (fin true (suc m) d) e l = refl
-is_nan (fin false (suc m) d) e l = absurd (subst T l (lt→ltb (0 * 1 * down d) (suc m * up d * 1) (below_positive m d)))
+is_nan_lem nan e l = refl
+is_nan_lem (inf true) e l = refl
+is_nan_lem (inf false) e l = absurd (true≢false l)
+is_nan_lem (fin s zero d) e l = absurd (subst T e (level_zero s (0 * up d * 1) (0 * 1 * down d) (omega (arith, zero-mul (up d))) (omega (arith, zero-mul (down d)))))
+is_nan_lem (fin true (suc m) d) e l = refl
+is_nan_lem (fin false (suc m) d) e l = absurd (subst T l (lt→ltb (0 * 1 * down d) (suc m * up d * 1) (below_positive m d)))
 
 -- ---- the pattern of what is above zero
 pub pattern_pos : (x : Float) → T (fits binary32 x) → T (above x) → 0 < to_bits binary32 x

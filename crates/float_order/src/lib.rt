@@ -1,1 +1,2 @@
 // The order of floats, for the proofs: no code.
+#![tactic(auto)]

@@ -1,4 +1,5 @@
 // Kinds 1 and 11: Config in its frame of 246 bytes, read and written. Their bodies are the same.
+#![tactic(auto)]
 ghost use Rattle.std.specs.Prelude.{◌≡◌};
 ghost use Rattle.std.proofs.lemmas.List.Edits.{sets};
 ghost use Rattle.wire.specs.Cell.{bytes_of};
@@ -7,7 +8,7 @@ ghost use Rattle.frame_config.specs.ConfigFrame.{config_kind, keeps_raised, conf
 
 use config::Config;
 
-#[derive(Drop)]
+#[derive(Clone, Copy)]
 pub enum ConfigRead {
     Frame(Config),
     Refused(u16),

@@ -1,4 +1,5 @@
 // Kind 4: a Decision in its frame of 95 bytes, read and written.
+#![tactic(auto)]
 ghost use Rattle.std.specs.Prelude.{◌≡◌, ◌<◌};
 ghost use Rattle.std.proofs.lemmas.List.Edits.{sets};
 ghost use Rattle.wire.specs.Frame.{room_fault, frame_written};
@@ -9,7 +10,7 @@ ghost use Rattle.frame_decision.specs.DecisionFrame.{estimate_at, decision_at, d
 use types::{Action, ActiveSet, Decision, EnergyEstimate, OptionF32, Reason, Slot};
 
 // What a frame gives: 0 and its Decision, or the refusal number and a blank one.
-#[derive(Drop)]
+#[derive(Clone, Copy)]
 pub struct DecisionRead {
     pub refused: u16,
     pub decision: Decision,

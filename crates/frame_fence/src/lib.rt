@@ -1,4 +1,5 @@
 // Kinds 2 and 8: a fence in its frame, read as it was sent and written; and the fence rules applied to what was read.
+#![tactic(auto)]
 ghost use Rattle.std.specs.Prelude.{◌≡◌, ◌+◌, ◌*◌, ◌<◌, ◌≤◌, min, length, take};
 ghost use Rattle.std.proofs.lemmas.List.Edits.{sets};
 ghost use Rattle.wire.specs.Cell.{bytes_of};
@@ -10,7 +11,7 @@ use geometry::{ConvexPolygon, Geofence, GeofenceResult};
 use types::Point2;
 
 // 0 and the fence as sent, its first sixteen corners at most; or the number of the refusal, and zeros. `once_round` is that of kind 8.
-#[derive(Drop)]
+#[derive(Clone, Copy)]
 pub struct FenceRead {
     pub refused: u16,
     pub once_round: bool,

@@ -1,11 +1,12 @@
 // Kind 255: the number of a refusal in its frame, read and written.
+#![tactic(auto)]
 ghost use Rattle.std.specs.Prelude.{◌≡◌};
 ghost use Rattle.std.proofs.lemmas.List.Edits.{sets};
 ghost use Rattle.wire.specs.Frame.{room_fault, frame_written};
 ghost use Rattle.frame_refusal.specs.RefusalFrame.{read_refusal, refusal_frame};
 
 // The number that a frame holds, or the number of the refusal that it earns itself.
-#[derive(Drop)]
+#[derive(Clone, Copy)]
 pub enum RefusalRead {
     Frame(u16),
     Refused(u16),

@@ -1,4 +1,5 @@
 // Kind 6: a Decision with the side of the fence that gave its distance, in a frame of 96 bytes. It is kind 4's frame with one byte put in.
+#![tactic(auto)]
 ghost use Rattle.std.specs.Prelude.{◌≡◌, length};
 ghost use Rattle.std.proofs.lemmas.List.Edits.{sets};
 ghost use Rattle.wire.specs.Fields.{le8, le_flag};
@@ -9,7 +10,7 @@ use frame_decision::DecisionRead;
 use types::Decision;
 
 // The Decision and the side, or a refusal with blanks beside it.
-#[derive(Drop)]
+#[derive(Clone, Copy)]
 pub struct SideRead {
     pub refused: u16,
     pub decision: Decision,

@@ -1,5 +1,6 @@
 // Kind 5: the supervisor's state, without configuration and fence, in its frame of 186 bytes, read and written. Kind 12, of a flight
 // that keeps raised requests, has eight bytes more: `keeps` says which it is.
+#![tactic(auto)]
 ghost use Rattle.std.specs.Prelude.{◌≡◌, ◌+◌, ◌<◌, ◌≤◌, eqb, length};
 ghost use Rattle.std.proofs.lemmas.List.Edits.{sets};
 ghost use Rattle.supervisor.specs.Rules.{finite_vec, finite_stored};
@@ -18,7 +19,7 @@ use triggers::{Raised, TriggerState};
 use types::{OptionPositionSample, OptionU32, Vec3};
 use validate::GlitchState;
 
-#[derive(Drop)]
+#[derive(Clone, Copy)]
 pub enum StateRead {
     Frame(Supervisor),
     Refused(u16),

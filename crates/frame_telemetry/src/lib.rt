@@ -1,4 +1,5 @@
 // Kind 3: Telemetry in its frame, read and written.
+#![tactic(auto)]
 ghost use Rattle.std.specs.Prelude.{◌≡◌, ◌+◌, ◌<◌, ◌≤◌, length};
 ghost use Rattle.std.proofs.lemmas.List.Edits.{sets};
 ghost use Rattle.wire.specs.Fields.{u32_at, f32_at};
@@ -22,7 +23,7 @@ use types::{
     OptionStampedLandedState, OptionU8, OptionU32, PositionSample, Telemetry, Vec3,
 };
 
-#[derive(Drop)]
+#[derive(Clone, Copy)]
 pub enum TelemetryRead {
     Frame(Telemetry),
     Refused(u16),
@@ -114,43 +115,43 @@ fn zero28(s: &[u8], at: usize) -> bool
 }
 
 // A reading is tested and read at once: a frame is refused at the first that is not valid, and no flag is looked at twice.
-#[derive(Drop)]
+#[derive(Clone, Copy)]
 enum PositionField {
     Valid(OptionPositionSample),
     Invalid,
 }
 
-#[derive(Drop)]
+#[derive(Clone, Copy)]
 enum GpsField {
     Valid(OptionGpsSample),
     Invalid,
 }
 
-#[derive(Drop)]
+#[derive(Clone, Copy)]
 enum StampedF32Field {
     Valid(OptionStampedF32),
     Invalid,
 }
 
-#[derive(Drop)]
+#[derive(Clone, Copy)]
 enum StampedBoolField {
     Valid(OptionStampedBool),
     Invalid,
 }
 
-#[derive(Drop)]
+#[derive(Clone, Copy)]
 enum StampedLandedField {
     Valid(OptionStampedLandedState),
     Invalid,
 }
 
-#[derive(Drop)]
+#[derive(Clone, Copy)]
 enum HeartbeatField {
     Valid(OptionU32),
     Invalid,
 }
 
-#[derive(Drop)]
+#[derive(Clone, Copy)]
 enum BatteryField {
     Valid(BatteryInputs),
     Invalid,

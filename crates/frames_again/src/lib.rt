@@ -1,4 +1,5 @@
 // The frames of what a step leaves, written and read again: the very state, and the very Decision.
+#![tactic(auto)]
 ghost use Rattle.std.specs.Prelude.{true, false, ◌≡◌};
 ghost use Rattle.supervisor.specs.Rules.{Rules, RaisedFits};
 ghost use Rattle.supervisor.specs.Settings.{base_settings, fence_site, fed_at};

@@ -1,4 +1,5 @@
 // The Rust's geometry.rs: the fence's polygon and altitudes, and the distance. The rules of the corners are in `corners`.
+#![tactic(auto)]
 ghost use Rattle.std.specs.Prelude.{◌≡◌, false, ◌+◌, ◌%◌, ◌<◌, ◌≤◌, take, eqb};
 ghost use Rattle.geometry.specs.Polygon.{place_held, normalize_ccw, held_polygon, polygon_new, geofence_new};
 ghost use Rattle.geometry.specs.Distance.{ring_of, vertex, side_length, side_lengths, edge_signed_distance_by, nearer_side, nearest, nearest_by, signed_distance, contains};
@@ -6,7 +7,7 @@ ghost use Rattle.geometry.specs.Distance.{ring_of, vertex, side_length, side_len
 use corners::{FenceError, FenceResult};
 use types::{OptionPoint2, Point2};
 
-#[derive(Drop)]
+#[derive(Clone, Copy)]
 pub struct ConvexPolygon {
     pub verts: [Point2; 16],
     pub len: usize,
@@ -14,13 +15,13 @@ pub struct ConvexPolygon {
 
 // Result<ConvexPolygon, FenceError>: the polygon is accepted where the result is Ok. The large field stands first, here and below: so fewer copies
 // are made of it.
-#[derive(Drop)]
+#[derive(Clone, Copy)]
 pub struct PolygonResult {
     pub poly: ConvexPolygon,
     pub result: FenceResult,
 }
 
-#[derive(Drop)]
+#[derive(Clone, Copy)]
 pub struct Geofence {
     pub poly: ConvexPolygon,
     pub max_alt_m: f32,
@@ -28,20 +29,20 @@ pub struct Geofence {
 }
 
 // Result<Geofence, FenceError>: the fence is accepted where the result is Ok.
-#[derive(Drop)]
+#[derive(Clone, Copy)]
 pub struct GeofenceResult {
     pub fence: Geofence,
     pub result: FenceResult,
 }
 
 // The length of each side, from the first corner's on; 0 in the unused places.
-#[derive(Drop)]
+#[derive(Clone, Copy)]
 pub struct SideLengths {
     pub m: [f32; 16],
 }
 
 // The least distance from a fence's sides, and the number of the side that gave it; 255 where none did.
-#[derive(Drop)]
+#[derive(Clone, Copy)]
 pub struct FenceDistance {
     pub m: f32,
     pub side: u8,

@@ -1,4 +1,5 @@
 // Document 02, L9: an inside test that stops at the first side with a negative distance, for one point and for a row of them.
+#![tactic(auto)]
 ghost use Rattle.std.specs.Prelude.{◌≡◌, ◌+◌, ◌*◌, ◌/◌, ◌%◌, ◌≤◌, ◌<◌, length};
 ghost use Rattle.std.proofs.lemmas.List.Edits.{sets};
 ghost use Rattle.geometry.specs.Distance.{ring_of};
@@ -12,7 +13,7 @@ use geometry::ConvexPolygon;
 use types::Point2;
 
 // Whether a point is inside, and how many sides were read.
-#[derive(Drop)]
+#[derive(Clone, Copy)]
 pub struct Inside {
     pub yes: bool,
     pub read: u8,

@@ -1,12 +1,13 @@
 // Document 02, L13: the 200 mixtures of previous action, wanted action, valid position, clock fault and elapsed recovery, and
 // how many of them end in an action.
+#![tactic(auto)]
 ghost use Rattle.std.specs.Prelude.{◌≡◌};
 ghost use Rattle.mixture.specs.Mixtures.{action_shown, action_at, is_odd, mixture_at, ends_one, ends_in, reading_of};
 
 use arbiter::ArbiterState;
 use types::{Action, OptionU32, Reason, Request};
 
-#[derive(Drop)]
+#[derive(Clone, Copy)]
 pub struct Mixture {
     pub previous: Action,
     pub wanted: Action,

@@ -1,5 +1,6 @@
 // Program `mixtures`: how many of the 200 mixtures end in each action, a line each. The counts are worked out by the crate
 // `mixture`; no contract can say what is written.
+#![tactic(auto)]
 ghost use Rattle.std.specs.Prelude.{◌≡◌};
 ghost use Rattle.mixture.specs.Mixtures.{ends_in};
 

@@ -1,1 +1,2 @@
 // When each reason is filed (specs/Reasons.antt), with no code of its own.
+#![tactic(auto)]

@@ -1,4 +1,5 @@
 // Document 02, L12: one spelling for a ring of corners.
+#![tactic(auto)]
 ghost use Rattle.std.specs.Prelude.{◌≡◌, [], map, cond, ◌+◌, ◌-◌, ◌≤◌, ◌<◌, take};
 ghost use Rattle.rings.specs.Spelling.{least_at, spelled};
 ghost use Rattle.rings.specs.Corner.{before, plain_number, plain, written, around, goes_back, held};
@@ -6,7 +7,7 @@ ghost use Rattle.rings.specs.Corner.{before, plain_number, plain, written, aroun
 use types::Point2;
 
 // The corners of a ring; unused places are zero.
-#[derive(Drop)]
+#[derive(Clone, Copy)]
 pub struct Corners {
     pub verts: [Point2; 16],
     pub len: usize,

@@ -1,4 +1,5 @@
 // The work of the program `decide`, on slices: what is written for each frame that it reads, and when it ends.
+#![tactic(auto)]
 ghost use Rattle.std.specs.Prelude.{◌≡◌, List, ℕ, ◌+◌, ◌≤◌, length, take, drop};
 ghost use Rattle.wire.specs.Frame.{frame_written};
 ghost use Rattle.frame_decision.specs.DecisionFrame.{decision_frame};
@@ -15,7 +16,7 @@ use types::Decision;
 
 // The frame that is due: a kind 1, a kind 2 or 8, then a kind 3 or a kind 13 before it, and after a kind 13 a kind 3 alone; after
 // a refusal nothing.
-#[derive(Drop)]
+#[derive(Clone, Copy)]
 pub enum Due {
     Config,
     Fence,
@@ -25,7 +26,7 @@ pub enum Due {
 }
 
 // `areas` is how many bytes of keep-out areas are held, in a slice that the caller keeps.
-#[derive(Drop)]
+#[derive(Clone, Copy)]
 pub struct Session {
     pub due: Due,
     pub flight: Flight,
@@ -34,14 +35,14 @@ pub struct Session {
 }
 
 // The session after a frame of kind 1 or 2, and how many bytes were put.
-#[derive(Drop)]
+#[derive(Clone, Copy)]
 struct Answer {
     session: Session,
     put: usize,
 }
 
 // The same with how many bytes of the input were taken.
-#[derive(Drop)]
+#[derive(Clone, Copy)]
 pub struct SetUp {
     pub session: Session,
     pub taken: usize,
@@ -49,7 +50,7 @@ pub struct SetUp {
 }
 
 // What is due after a frame of kind 3 or 13, the supervisor then, how many bytes of areas are held, and how many bytes were put.
-#[derive(Drop)]
+#[derive(Clone, Copy)]
 struct FrameAnswer {
     due: Due,
     supervisor: Supervisor,
@@ -58,7 +59,7 @@ struct FrameAnswer {
 }
 
 // The same after several frames, with how many bytes of the input were taken.
-#[derive(Drop)]
+#[derive(Clone, Copy)]
 pub struct FramesAnswer {
     pub due: Due,
     pub supervisor: Supervisor,

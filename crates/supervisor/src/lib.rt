@@ -1,4 +1,5 @@
 // The Rust's lib.rs: one step of the supervisor. Configuration and fence come with each call.
+#![tactic(auto)]
 ghost use Rattle.std.specs.Prelude.{◌≡◌};
 ghost use Rattle.geometry.specs.Distance.{ring_of, nearest_by};
 ghost use Rattle.frame_areas.specs.AreasFrame.{clearance_at};
@@ -18,7 +19,7 @@ use types::{
 use validate::GlitchState;
 
 // The Rust's Supervisor without cfg and fence.
-#[derive(Drop)]
+#[derive(Clone, Copy)]
 pub struct Supervisor {
     pub triggers: TriggerState,
     pub arbiter: ArbiterState,
@@ -31,14 +32,14 @@ pub struct Supervisor {
 }
 
 // Result<Supervisor, ConfigError>: the supervisor is fresh, and accepted where the result is Ok.
-#[derive(Drop)]
+#[derive(Clone, Copy)]
 pub struct SupervisorResult {
     pub result: ConfigResult,
     pub supervisor: Supervisor,
 }
 
 // A step's answer; beside the Decision the side of the fence that gave its distance, 255 where none did.
-#[derive(Drop)]
+#[derive(Clone, Copy)]
 pub struct Stepped {
     pub supervisor: Supervisor,
     pub decision: Decision,
@@ -68,7 +69,7 @@ fn glitch_after(third: bool, g: GlitchState) -> GlitchState
 // ---- what is sensed
 
 // All that a step reads off its telemetry and the triggers' state.
-#[derive(Drop)]
+#[derive(Clone, Copy)]
 pub struct Sensed {
     pub triggers: TriggerState,
     pub glitch: GlitchState,
@@ -81,7 +82,7 @@ pub struct Sensed {
 }
 
 // What is read of a position: the place, and the energy to return from it.
-#[derive(Drop)]
+#[derive(Clone, Copy)]
 struct Located {
     place: OptionPlace,
     energy: EnergyEstimate,

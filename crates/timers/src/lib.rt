@@ -1,24 +1,25 @@
 // Timers, pairs of them that set and clear a request, and the rule by which a pair raises it.
+#![tactic(auto)]
 ghost use Rattle.std.specs.Prelude.{◌≡◌};
 ghost use Rattle.time.specs.Time.{wrapping};
 ghost use Rattle.timers.specs.Timer.{cleared, pending, since_or, held_set, hold_pair, rested, raised_by};
 
 use types::OptionU32;
 
-#[derive(Drop)]
+#[derive(Clone, Copy)]
 pub struct Timer {
     pub since_ms: OptionU32,
 }
 
 // A timer after a step, and whether its hold is met.
-#[derive(Drop)]
+#[derive(Clone, Copy)]
 pub struct Held {
     pub timer: Timer,
     pub met: bool,
 }
 
 // The timers that set and clear a request after a step, and which of their holds is met.
-#[derive(Drop)]
+#[derive(Clone, Copy)]
 pub struct PairHeld {
     pub set: Timer,
     pub clear: Timer,

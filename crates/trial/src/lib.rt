@@ -1,4 +1,5 @@
 // Document 02, L6: a test load that everyone can make. Telemetry frames from a seed, one a call.
+#![tactic(auto)]
 ghost use Rattle.std.specs.Prelude.{◌≡◌, ◌+◌, ◌*◌, ◌≤◌, ◌++◌, length, take, drop};
 ghost use Rattle.std.proofs.lemmas.List.Edits.{sets};
 ghost use Rattle.trial.specs.Draws.{next, draws_of, stamp_of, flag_of, fix_of, landed_of, byte_of, float_of};
@@ -14,7 +15,7 @@ use types::{
 };
 
 // `begun`: whether a frame was made.
-#[derive(Drop)]
+#[derive(Clone, Copy)]
 pub struct Generator {
     pub x: u32,
     pub now_ms: u32,
@@ -22,7 +23,7 @@ pub struct Generator {
 }
 
 // A frame's Telemetry, and the generator after it.
-#[derive(Drop)]
+#[derive(Clone, Copy)]
 pub struct NextFrame {
     pub telemetry: Telemetry,
     pub generator: Generator,

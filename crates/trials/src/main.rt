@@ -1,6 +1,7 @@
 // Program `trials SEED COUNT`: COUNT Telemetry frames from a seed to standard output, in blocks. Where an argument is no decimal
 // number below 2^32, or is missing, or there are more than two, it says so on standard error and writes no frame. The work is in the
 // crate `trial`; what is proved here is that the functions are safe and end.
+#![tactic(auto)]
 ghost use Rattle.std.specs.Prelude.{min, ◌≡◌};
 
 use libc::{STDERR_FILENO, STDOUT_FILENO};

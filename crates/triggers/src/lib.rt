@@ -1,4 +1,5 @@
 // The Rust's triggers.rs: one function for each family of triggers, and update. Its timers are in `timers`.
+#![tactic(auto)]
 ghost use Rattle.std.specs.Prelude.{◌≡◌};
 ghost use Rattle.time.specs.Time.{wrapping};
 ghost use Rattle.triggers.specs.Families.{invalid_input, gcs_age, stage_request, gcs_clearing, gcs_stage, gcs_link, rc_link, few_sats, many_sats, poor_hdop, good_hdop, degraded, recovered, fixed, gps, ekf, fence_approach, fence_breach, altitude_max, in_air, altitude_min, fence, is_present, stale_battery, low_voltage, battery_warn, battery_low, battery_critical, battery, energy_marginal, energy};
@@ -14,7 +15,7 @@ use types::{
 
 // ---- invalid input
 
-#[derive(Drop)]
+#[derive(Clone, Copy)]
 pub struct InvalidInput {
     pub active: bool,
     pub clear: Timer,
@@ -40,7 +41,7 @@ fn invalid_input(active: bool, clear: Timer, now: u32, invalid: bool, clear_ms: 
 
 // ---- the link to the ground station
 
-#[derive(Drop)]
+#[derive(Clone, Copy)]
 pub struct GcsLink {
     pub clear_timer: Timer,
     pub stage: u8,
@@ -132,7 +133,7 @@ fn gcs_link(timer: Timer, stage: u8, now: u32, heartbeat: OptionU32, cfg: Config
 // ---- the hand controller
 
 // `lost`: raised from the first bad step, since a pending timer suffices. `met`: the set timer has held its time.
-#[derive(Drop)]
+#[derive(Clone, Copy)]
 pub struct RcLink {
     pub set: Timer,
     pub clear: Timer,
@@ -167,7 +168,7 @@ fn rc_link(set: Timer, clear: Timer, now: u32, good: bool, cfg: Config) -> RcLin
 
 // ---- satellite positioning
 
-#[derive(Drop)]
+#[derive(Clone, Copy)]
 pub struct GpsHeld {
     pub degraded: PairHeld,
     pub lost: PairHeld,
@@ -293,20 +294,20 @@ fn gps_held(s: TriggerState, now: u32, sample: OptionGpsSample, cfg: Config) -> 
 // ---- the fence
 
 // What a step reads of a position, each worked out once: the distance from the fence and from home, and the height.
-#[derive(Drop)]
+#[derive(Clone, Copy)]
 pub struct Place {
     pub fence: FenceDistance,
     pub home_dist_m: f32,
     pub alt_m: f32,
 }
 
-#[derive(Drop)]
+#[derive(Clone, Copy)]
 pub enum OptionPlace {
     None,
     Some(Place),
 }
 
-#[derive(Drop)]
+#[derive(Clone, Copy)]
 pub struct FenceHeld {
     pub approach: bool,
     pub breach: PairHeld,
@@ -446,7 +447,7 @@ fn fence_held(
 
 // ---- the battery
 
-#[derive(Drop)]
+#[derive(Clone, Copy)]
 pub struct StaleBattery {
     pub stale: bool,
     pub clear: Timer,
@@ -488,7 +489,7 @@ fn stale_battery(
     }
 }
 
-#[derive(Drop)]
+#[derive(Clone, Copy)]
 pub struct BatteryHeld {
     pub warn: PairHeld,
     pub low: PairHeld,
@@ -591,7 +592,7 @@ fn battery_held(
 
 // ---- energy
 
-#[derive(Drop)]
+#[derive(Clone, Copy)]
 pub struct EnergyHeld {
     pub marginal: PairHeld,
     pub infeas_set: Timer,
@@ -646,7 +647,7 @@ fn energy_held(s: TriggerState, now: u32, margin: OptionF32, cfg: Config) -> Ene
 // ---- the whole
 
 // The requests that a kind 11 configuration keeps once they are raised, in the order of kind 12's bytes.
-#[derive(Drop)]
+#[derive(Clone, Copy)]
 pub struct Raised {
     pub gps_degraded: bool,
     pub gps_lost: bool,
@@ -658,7 +659,7 @@ pub struct Raised {
     pub energy_rtl_marginal: bool,
 }
 
-#[derive(Drop)]
+#[derive(Clone, Copy)]
 pub struct TriggerState {
     pub battery_critical_latched: bool,
     pub energy_infeasible_latched: bool,
@@ -694,7 +695,7 @@ pub struct TriggerState {
 }
 
 // What each family made of a step.
-#[derive(Drop)]
+#[derive(Clone, Copy)]
 pub struct Families {
     pub invalid: InvalidInput,
     pub gcs: GcsLink,
@@ -708,7 +709,7 @@ pub struct Families {
 }
 
 // The state after a step, and the requests that it filed.
-#[derive(Drop)]
+#[derive(Clone, Copy)]
 pub struct Updated {
     pub triggers: TriggerState,
     pub active: ActiveSet,

@@ -36,7 +36,7 @@ others_of l e f = subst (λ (x : Request). OtherReasons x l) e f
 
 one_reordered : {l m : List Request} → Permᴰ l m → OnePerReason l → OnePerReason m
 one_reordered Permᴰ.nil o = o
-one_reordered (Permᴰ.cons {l₂ = m} e r) o = (others_of m e (others_reordered _ r o.0), one_reordered r o.1)
+one_reordered (Permᴰ.cons {a = a} {l₂ = m} e r) o = (others_of m e (others_reordered a r o.0), one_reordered r o.1)
 one_reordered (Permᴰ.swap {l = l} d e) o =
     ((λ k. o.0.0 (ap (λ (x : Request). x.reason) d ∙ sym k ∙ sym (ap (λ (x : Request). x.reason) e)), others_of l e o.1.0), (others_of l d o.0.1, o.1.1))
 one_reordered (Permᴰ.trans r s) o = one_reordered s (one_reordered r o)

@@ -1,4 +1,5 @@
 // The Rust's types.rs: readings, requests and decisions. Option<T> is one enum for each T.
+#![tactic(auto)]
 ghost use Rattle.std.specs.Prelude.{◌≡◌};
 ghost use Rattle.types.specs.Vec3.{alt_m, horizontal_dist_home};
 ghost use Rattle.types.specs.Numbers.{fix_number, fix_of_number, landed_number, landed_of_number, rank, action_of_rank, index, from_index, display_priority};
@@ -8,13 +9,13 @@ pub const MAX_FENCE_VERTS: usize = 16;
 
 pub const HALF_RANGE_MS: u32 = 0x8000_0000;
 
-#[derive(Drop)]
+#[derive(Clone, Copy)]
 pub struct Point2 {
     pub n: f32,
     pub e: f32,
 }
 
-#[derive(Drop)]
+#[derive(Clone, Copy)]
 pub struct Vec3 {
     pub n: f32,
     pub e: f32,
@@ -36,63 +37,63 @@ impl Vec3 {
 }
 
 // Option<u8>, Option<u32>, Option<f32>, Option<Point2>, Option<Vec3>.
-#[derive(Drop)]
+#[derive(Clone, Copy)]
 pub enum OptionU8 {
     None,
     Some(u8),
 }
 
-#[derive(Drop)]
+#[derive(Clone, Copy)]
 pub enum OptionU32 {
     None,
     Some(u32),
 }
 
-#[derive(Drop)]
+#[derive(Clone, Copy)]
 pub enum OptionF32 {
     None,
     Some(f32),
 }
 
-#[derive(Drop)]
+#[derive(Clone, Copy)]
 pub enum OptionPoint2 {
     None,
     Some(Point2),
 }
 
-#[derive(Drop)]
+#[derive(Clone, Copy)]
 pub enum OptionVec3 {
     None,
     Some(Vec3),
 }
 
 // Option<Stamped<f32>>, Option<Stamped<bool>>: a present reading has its stamp and its value.
-#[derive(Drop)]
+#[derive(Clone, Copy)]
 pub enum OptionStampedF32 {
     None,
     Some { t_ms: u32, value: f32 },
 }
 
-#[derive(Drop)]
+#[derive(Clone, Copy)]
 pub enum OptionStampedBool {
     None,
     Some { t_ms: u32, value: bool },
 }
 
-#[derive(Drop)]
+#[derive(Clone, Copy)]
 pub enum GpsFix {
     None,
     Fix2D,
     Fix3D,
 }
 
-#[derive(Drop)]
+#[derive(Clone, Copy)]
 pub enum OptionGpsFix {
     None,
     Some(GpsFix),
 }
 
-#[derive(Drop)]
+#[derive(Clone, Copy)]
 pub enum LandedState {
     Undefined,
     OnGround,
@@ -101,32 +102,32 @@ pub enum LandedState {
     Landing,
 }
 
-#[derive(Drop)]
+#[derive(Clone, Copy)]
 pub enum OptionLandedState {
     None,
     Some(LandedState),
 }
 
-#[derive(Drop)]
+#[derive(Clone, Copy)]
 pub enum OptionStampedLandedState {
     None,
     Some { t_ms: u32, value: LandedState },
 }
 
-#[derive(Drop)]
+#[derive(Clone, Copy)]
 pub struct PositionSample {
     pub t_ms: u32,
     pub pos: Vec3,
     pub vel: Vec3,
 }
 
-#[derive(Drop)]
+#[derive(Clone, Copy)]
 pub enum OptionPositionSample {
     None,
     Some(PositionSample),
 }
 
-#[derive(Drop)]
+#[derive(Clone, Copy)]
 pub struct GpsSample {
     pub t_ms: u32,
     pub fix: GpsFix,
@@ -134,20 +135,20 @@ pub struct GpsSample {
     pub hdop: OptionF32,
 }
 
-#[derive(Drop)]
+#[derive(Clone, Copy)]
 pub enum OptionGpsSample {
     None,
     Some(GpsSample),
 }
 
-#[derive(Drop)]
+#[derive(Clone, Copy)]
 pub struct BatteryInputs {
     pub voltage_v: OptionStampedF32,
     pub percent: OptionStampedF32,
     pub remaining_wh: OptionStampedF32,
 }
 
-#[derive(Drop)]
+#[derive(Clone, Copy)]
 pub struct Telemetry {
     pub now_ms: u32,
     pub position: OptionPositionSample,
@@ -160,7 +161,7 @@ pub struct Telemetry {
     pub ekf_ok: OptionStampedBool,
 }
 
-#[derive(Drop)]
+#[derive(Clone, Copy)]
 pub enum Action {
     Nominal,
     Warn,
@@ -169,13 +170,13 @@ pub enum Action {
     Land,
 }
 
-#[derive(Drop)]
+#[derive(Clone, Copy)]
 pub enum OptionAction {
     None,
     Some(Action),
 }
 
-#[derive(Drop)]
+#[derive(Clone, Copy)]
 pub enum Reason {
     None,
     ClockFault,
@@ -200,7 +201,7 @@ pub enum Reason {
 
 pub const N_REASONS: usize = 19;
 
-#[derive(Drop)]
+#[derive(Clone, Copy)]
 pub enum OptionReason {
     None,
     Some(Reason),
@@ -369,21 +370,21 @@ impl Reason {
     }
 }
 
-#[derive(Drop)]
+#[derive(Clone, Copy)]
 pub struct Request {
     pub reason: Reason,
     pub action: Action,
 }
 
 // Option<Request>. Reason and action of an absent one are free; `no_request`, and so every set that a step gives, has None and Nominal.
-#[derive(Drop)]
+#[derive(Clone, Copy)]
 pub struct Slot {
     pub present: bool,
     pub reason: Reason,
     pub action: Action,
 }
 
-#[derive(Drop)]
+#[derive(Clone, Copy)]
 pub struct ActiveSet {
     pub reqs: [Slot; 19],
 }
@@ -494,7 +495,7 @@ impl ActiveSet {
     }
 }
 
-#[derive(Drop)]
+#[derive(Clone, Copy)]
 pub struct EnergyEstimate {
     pub rtl_wh: f32,
     pub land_wh: f32,
@@ -504,7 +505,7 @@ pub struct EnergyEstimate {
     pub insufficient_for_landing: bool,
 }
 
-#[derive(Drop)]
+#[derive(Clone, Copy)]
 pub struct Decision {
     pub action: Action,
     pub reason: Reason,

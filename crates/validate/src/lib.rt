@@ -1,4 +1,5 @@
 // The Rust's validate.rs: bounds of readings, the glitch filter, the readers of fresh values.
+#![tactic(auto)]
 ghost use Rattle.std.specs.Prelude.{◌≡◌};
 ghost use Rattle.time.specs.Time.{wrapping};
 ghost use Rattle.validate.specs.Bounds.{within_position, within_velocity, validate_position_sample, validate_hdop, validate_gps, validate_percent, validate_remaining, position_ok, gps_ok, percent_ok, remaining_ok, keep_position, keep_gps, keep_stamped, validate_telemetry};
@@ -11,20 +12,20 @@ use types::{
     Telemetry, Vec3,
 };
 
-#[derive(Drop)]
+#[derive(Clone, Copy)]
 pub struct GlitchState {
     pub last_accepted: OptionPositionSample,
     pub reject_streak: u8,
 }
 
-#[derive(Drop)]
+#[derive(Clone, Copy)]
 pub struct ValidatedTelemetry {
     pub telemetry: Telemetry,
     pub invalid_input: bool,
 }
 
 // What the glitch filter leaves: its state, and the sample where it is kept.
-#[derive(Drop)]
+#[derive(Clone, Copy)]
 pub struct Filtered {
     pub glitch: GlitchState,
     pub position: OptionPositionSample,

@@ -1,5 +1,6 @@
 // The energy of a return in whole numbers: millimetres, millimetres a second, milliwatts, millijoules, and
 // wind in thousandths. Everything can be checked on paper.
+#![tactic(auto)]
 ghost use Rattle.std.specs.Prelude.{◌≡◌, ◌+◌, ◌%◌, ◌^◌, ◌<◌, ◌≤◌, true, false, pos, ◌-ℤ◌, neg_ℤ, int_le, unsigned_abs};
 ghost use Rattle.std.proofs.lemmas.List.Edits.{sets};
 ghost use Rattle.wire.specs.Fields.{u32_at};
@@ -9,7 +10,7 @@ ghost use Rattle.whole_energy.specs.Energy.{Bounded, one_for, leg, rounded_up, e
 ghost use Rattle.whole_energy.specs.Call.{le64, leg_bytes, estimate_bytes, energy_call};
 
 // What the legs are worked out from: the square of the distance home, heights, powers, wind, speeds.
-#[derive(Drop)]
+#[derive(Clone, Copy)]
 pub struct Return {
     pub square: u64,
     pub climb: u64,
@@ -24,13 +25,13 @@ pub struct Return {
 }
 
 // A leg's energy divided, with what is left.
-#[derive(Drop)]
+#[derive(Clone, Copy)]
 pub struct Leg {
     pub quotient: u64,
     pub remainder: u64,
 }
 
-#[derive(Drop)]
+#[derive(Clone, Copy)]
 pub struct Estimate {
     pub distance: u64,
     pub remainder: u64,

@@ -1,0 +1,10 @@
+-- `types::ActiveSet::clear` meets its contract. Assumes nothing.
+use native.Mathlib.Omega.{arith}
+use Rattle.types.specs.ActiveSet.{clear_request}
+use Rattle.types.proofs.Slots.{index_lt}
+use borrow.Author.Rules.{rules}
+use Rattle.types.proofs.ActiveSet.clear.Goals as goal
+
+pub returns : goal.returns
+unfolding clear_request
+returns c = simp (c.index-i.ensures, c.no_request-s.ensures)
