@@ -1,5 +1,6 @@
 // The Rust's arbiter.rs: latches, persistence, feasibility.
 #![tactic(auto)]
+
 ghost use Rattle.std.specs.Prelude.{◌≡◌};
 ghost use Rattle.time.specs.Time.{wrapping};
 ghost use Rattle.arbiter.specs.Arbiter.{fresh_arbiter, without_recovery, wanted, apply_persistence, apply_feasibility, arbitrate, previous, recovery_start, recover, shown, needs_position};

@@ -1,5 +1,6 @@
 // The Rust's clock rule, in lib.rs: which reading is a fault, and which fault a third in a row.
 #![tactic(auto)]
+
 ghost use Rattle.std.specs.Prelude.{◌≡◌};
 ghost use Rattle.time.specs.Time.{wrapping};
 ghost use Rattle.clock.specs.Clock.{clock_fault, sound_clock, clock_step};

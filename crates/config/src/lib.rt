@@ -1,5 +1,6 @@
 // The Rust's config.rs: the settings, their rules, the defaults.
 #![tactic(auto)]
+
 ghost use Rattle.std.specs.Prelude.{◌≡◌};
 ghost use Rattle.config.specs.Config.{config_error_number, bad_cell_count, bad_capacity, non_finite_param, non_positive_speed, negative_power, bad_threshold_order, duration_out_of_range, outside_duration, rtl_alt_outside_fence, check_config, validate_config};
 ghost use Rattle.config.specs.Default.{default_config, default_fence};

@@ -1,5 +1,6 @@
 // Which corners a fence or an area may have: the rules of the Rust's geometry.rs, and the rule of kind 8.
 #![tactic(auto)]
+
 ghost use Rattle.std.specs.Prelude.{◌≡◌, ◌≤◌, min, ◌&&◌, ltb, take};
 ghost use Rattle.corners.specs.Ring.{any_meets, tails};
 ghost use Rattle.corners.specs.Round.{place, failed, round_of};

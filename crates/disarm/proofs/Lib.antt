@@ -1,2 +1,1 @@
 -- What the proofs of `disarm` share.
-mod Lent

@@ -1,5 +1,6 @@
 // The Rust's disarm.rs: when the motors may be stopped. The gate goes in by value and comes back; its lent form stands last.
 #![tactic(auto)]
+
 ghost use Rattle.std.specs.Prelude.{◌≡◌};
 ghost use Rattle.time.specs.Time.{wrapping};
 ghost use Rattle.disarm.specs.Disarm.{closed, is_land, on_ground, gate_open, hold_from, evaluate};

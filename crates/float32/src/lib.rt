@@ -1,5 +1,6 @@
 // Libm's part: the functions on binary32 that the Rust takes from libm and from core.
 #![tactic(auto)]
+
 ghost use Rattle.std.specs.Prelude.{◌≡◌, false, ◌+◌, ◌*◌, ◌^◌, ◌≤◌, ◌<◌};
 ghost use Rattle.std.specs.Float.{inf, binary32};
 ghost use Rattle.std.specs.Float.Ieee.{of_bits, to_bits};

@@ -1,5 +1,6 @@
 // The functions of float32 for C, to test and to time them.
 #![tactic(auto)]
+
 ghost use Rattle.std.specs.Prelude.{◌≡◌};
 ghost use Rattle.float32.specs.Libm.{fabs, fmax};
 ghost use Rattle.float32.specs.Sqrt.{square_root};

@@ -23,7 +23,7 @@ owned_typed d v h =
     let g = h.1.1.1.1.1 in
     let e = g.1.1.1.0.1.1 in
     record {
-      nineteen = simp length-map at g.0.1.1.0.1.0.1;
+      nineteen = g.0.1.1.0.1.0.1;
       rtl = passes _ e.0.1;
       land = passes _ e.1.0.1;
       reserve = passes _ e.1.1.0.1;

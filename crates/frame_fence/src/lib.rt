@@ -1,5 +1,6 @@
 // Kinds 2 and 8: a fence in its frame, read as it was sent and written; and the fence rules applied to what was read.
 #![tactic(auto)]
+
 ghost use Rattle.std.specs.Prelude.{◌≡◌, ◌+◌, ◌*◌, ◌<◌, ◌≤◌, min, length, take};
 ghost use Rattle.std.proofs.lemmas.List.Edits.{sets};
 ghost use Rattle.wire.specs.Cell.{bytes_of};

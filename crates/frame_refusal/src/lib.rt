@@ -1,5 +1,6 @@
 // Kind 255: the number of a refusal in its frame, read and written.
 #![tactic(auto)]
+
 ghost use Rattle.std.specs.Prelude.{◌≡◌};
 ghost use Rattle.std.proofs.lemmas.List.Edits.{sets};
 ghost use Rattle.wire.specs.Frame.{room_fault, frame_written};

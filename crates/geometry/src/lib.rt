@@ -1,5 +1,6 @@
 // The Rust's geometry.rs: the fence's polygon and altitudes, and the distance. The rules of the corners are in `corners`.
 #![tactic(auto)]
+
 ghost use Rattle.std.specs.Prelude.{◌≡◌, false, ◌+◌, ◌%◌, ◌<◌, ◌≤◌, take, eqb};
 ghost use Rattle.geometry.specs.Polygon.{place_held, normalize_ccw, held_polygon, polygon_new, geofence_new};
 ghost use Rattle.geometry.specs.Distance.{ring_of, vertex, side_length, side_lengths, edge_signed_distance_by, nearer_side, nearest, nearest_by, signed_distance, contains};

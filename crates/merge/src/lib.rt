@@ -1,5 +1,6 @@
 // The readings of two radios merged for one step: one rule for choosing between two readings, carried to all ten.
 #![tactic(auto)]
+
 ghost use Rattle.std.specs.Prelude.{◌≡◌};
 ghost use Rattle.merge.specs.Choice.{younger, second_of_two, second_taken, is_some, age_of, standing, chosen};
 ghost use Rattle.merge.specs.Merge.{position_stamp, gps_stamp, f32_stamp, bool_stamp, landed_stamp, heartbeat_stamp, always, merge_battery, merge_telemetry};

@@ -1,6 +1,7 @@
 // Document 02, L13: the 200 mixtures of previous action, wanted action, valid position, clock fault and elapsed recovery, and
 // how many of them end in an action.
 #![tactic(auto)]
+
 ghost use Rattle.std.specs.Prelude.{◌≡◌};
 ghost use Rattle.mixture.specs.Mixtures.{action_shown, action_at, is_odd, mixture_at, ends_one, ends_in, reading_of};
 

@@ -1,5 +1,6 @@
 // Values that may be absent and enums, in a frame: tested, read and written. An absent value is all zero bytes.
 #![tactic(auto)]
+
 ghost use Rattle.std.specs.Prelude.{◌≡◌, ◌∷◌, ◌+◌, ◌^◌, ◌<◌, ◌≤◌, length};
 ghost use Rattle.std.proofs.lemmas.List.Edits.{sets};
 ghost use Rattle.wire.specs.Fields.{u32_at, le32};

@@ -1,5 +1,6 @@
 // Document 02, L12: one spelling for a ring of corners.
 #![tactic(auto)]
+
 ghost use Rattle.std.specs.Prelude.{◌≡◌, [], map, cond, ◌+◌, ◌-◌, ◌≤◌, ◌<◌, take};
 ghost use Rattle.rings.specs.Spelling.{least_at, spelled};
 ghost use Rattle.rings.specs.Corner.{before, plain_number, plain, written, around, goes_back, held};

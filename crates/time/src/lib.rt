@@ -1,5 +1,6 @@
 // The Rust's time.rs: ages by wrapping subtraction.
 #![tactic(auto)]
+
 ghost use Rattle.std.specs.Prelude.{◌≡◌};
 ghost use Rattle.time.specs.Time.{wrapping, age, fresh, hold_met};
 

@@ -1,5 +1,6 @@
 // Timers, pairs of them that set and clear a request, and the rule by which a pair raises it.
 #![tactic(auto)]
+
 ghost use Rattle.std.specs.Prelude.{◌≡◌};
 ghost use Rattle.time.specs.Time.{wrapping};
 ghost use Rattle.timers.specs.Timer.{cleared, pending, since_or, held_set, hold_pair, rested, raised_by};

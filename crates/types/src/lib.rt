@@ -1,5 +1,6 @@
 // The Rust's types.rs: readings, requests and decisions. Option<T> is one enum for each T.
 #![tactic(auto)]
+
 ghost use Rattle.std.specs.Prelude.{◌≡◌};
 ghost use Rattle.types.specs.Vec3.{alt_m, horizontal_dist_home};
 ghost use Rattle.types.specs.Numbers.{fix_number, fix_of_number, landed_number, landed_of_number, rank, action_of_rank, index, from_index, display_priority};

@@ -1,5 +1,6 @@
 // The Rust's validate.rs: bounds of readings, the glitch filter, the readers of fresh values.
 #![tactic(auto)]
+
 ghost use Rattle.std.specs.Prelude.{◌≡◌};
 ghost use Rattle.time.specs.Time.{wrapping};
 ghost use Rattle.validate.specs.Bounds.{within_position, within_velocity, validate_position_sample, validate_hdop, validate_gps, validate_percent, validate_remaining, position_ok, gps_ok, percent_ok, remaining_ok, keep_position, keep_gps, keep_stamped, validate_telemetry};

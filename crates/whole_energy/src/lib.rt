@@ -1,6 +1,7 @@
 // The energy of a return in whole numbers: millimetres, millimetres a second, milliwatts, millijoules, and
 // wind in thousandths. Everything can be checked on paper.
 #![tactic(auto)]
+
 ghost use Rattle.std.specs.Prelude.{◌≡◌, ◌+◌, ◌%◌, ◌^◌, ◌<◌, ◌≤◌, true, false, pos, ◌-ℤ◌, neg_ℤ, int_le, unsigned_abs};
 ghost use Rattle.std.proofs.lemmas.List.Edits.{sets};
 ghost use Rattle.wire.specs.Fields.{u32_at};

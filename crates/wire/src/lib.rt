@@ -1,6 +1,7 @@
 // Fields of a frame: little-endian numbers, flags and floats, and the frame's head. Reading past the end of a slice finds
 // bytes of 0; writing changes only what lies within the slice.
 #![tactic(auto)]
+
 ghost use Rattle.std.specs.Prelude.{◌≡◌, ◌+◌, ◌*◌, ◌≤◌, min, eqb, length, replicate};
 ghost use Rattle.std.proofs.lemmas.List.Edits.{sets};
 ghost use Rattle.wire.specs.Fields.{u8_at, u16_at, u32_at, f32_at, flag_at, byte_below, le8, le16, le32, le_f32, le_flag};

@@ -4,7 +4,6 @@ use Prim.Native.Nat.{ℕ, ◌+◌, ◌*◌, ◌/◌, ◌%◌, ◌^◌}
 use Rattle.float32.proofs.Round.{doubled, single}
 use Rattle.float32.proofs.Guess.{Guessed, single_guess, double_guess}
 use native.Mathlib.Omega.{arith}
-use borrow.Author.Rules.{rules}
 use Rattle.float32.proofs.first_guess.Goals as goal
 
 pub returns-then-t-lt8388608 : goal.returns-then-t-lt8388608

@@ -4,7 +4,6 @@ use mathlib.Core.Bool.{Bool, not}
 use lib.Dec.{T}
 use lib.Ieee.{binary32}
 use lib.Ieee.Bits.{nan_bits_above, nan_bits_is}
-use borrow.Author.Rules.{rules}
 use borrow.Author.Tests.{lt-ltb, le-ltb}
 use Rattle.float32.proofs.Libm.{zero_by_zero, only_nan}
 use Rattle.float32.proofs.from_bits.Goals as goal

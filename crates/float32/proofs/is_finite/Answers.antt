@@ -1,5 +1,4 @@
 -- `float32::is_finite` meets its contract. Assumes nothing.
-use borrow.Author.Rules.{rules}
 use Rattle.float32.proofs.Libm.{finite_between}
 use Rattle.float32.proofs.is_finite.Goals as goal
 

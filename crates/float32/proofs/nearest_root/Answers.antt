@@ -3,10 +3,9 @@ use mathlib.Core.Path.{◌≡◌, sym, subst}
 use Prim.Native.Nat.{ℕ, ◌+◌, ◌-◌, ◌*◌, ◌/◌, ◌%◌, ◌^◌, ◌≤◌, ◌<◌}
 use native.Mathlib.Omega.{arith}
 use Rattle.float32.specs.Radicand.{radicand_of}
-use Rattle.float32.proofs.Squares.{Near, upper_digits, lower_digits, apart_by, settle, stays}
+use Rattle.float32.proofs.Squares.{Near, upper_digits, lower_digits, apart_by, stays}
 use Rattle.float32.proofs.Round.{radicand_bounds}
 use Rattle.float32.proofs.Guess.{Guessed}
-use borrow.Author.Rules.{rules}
 use Rattle.float32.proofs.nearest_root.Goals as goal
 
 -- what is known of m, of r, and of the two parts of the division, with d for 128 * m - r * r

@@ -1,7 +1,6 @@
 -- `float32::normal_root` meets its contract. Assumes nothing.
 use native.Mathlib.Omega.{arith}
 use Rattle.float32.proofs.Round.{root_digits, normal_root_bits}
-use borrow.Author.Rules.{rules}
 use Rattle.float32.proofs.normal_root.Goals as goal
 
 pub overflow_add-result-2 : goal.overflow_add-result-2

@@ -1,5 +1,4 @@
 -- `float32::radicand` meets its contract, by the parity of the exponent. Assumes nothing.
-use borrow.Author.Rules.{rules}
 use Rattle.float32.proofs.Round.{doubled, single}
 use Rattle.float32.proofs.radicand.Goals as goal
 

@@ -4,7 +4,6 @@ use Prim.Native.Nat.{ℕ, ◌*◌, ◌^◌}
 use native.Mathlib.Omega.{arith}
 use Rattle.float32.proofs.Squares.{Near}
 use Rattle.float32.proofs.Round.{moved, root_digits, root_of_bits}
-use borrow.Author.Rules.{rules}
 use Rattle.float32.proofs.root_of.Goals as goal
 
 pub overflow_add-result-2 : goal.overflow_add-result-2

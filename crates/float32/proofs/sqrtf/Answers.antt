@@ -4,7 +4,7 @@ use native.Mathlib.Omega.{arith}
 use lib.Dec.{T}
 use lib.Ieee.{binary32, fits}
 use Rattle.float32.proofs.Libm.{zero_by_zero}
-use Rattle.float32.proofs.Patterns.{is_zero, is_above, not_nan, pattern_pos, is_top, is_nan_lem, normal_above, normal_bits, subnormal_bits, not_nan_bits, from_bits}
+use Rattle.float32.proofs.Patterns.{is_zero, is_above, pattern_pos, is_top, is_nan_lem, normal_above, normal_bits, subnormal_bits, not_nan_bits, from_bits}
 use Rattle.float32.proofs.sqrtf.Goals as goal
 
 -- what owning an `f32` tells: the format holds it

@@ -2,8 +2,7 @@
 use mathlib.Core.Path.{sym, ap}
 use mathlib.Core.Bool.{not}
 use lib.Ieee.{binary32, ne, to_bits}
-use borrow.Author.Rules.{rules}
-use Rattle.float32.proofs.Libm.{differing, no_nan}
+use Rattle.float32.proofs.Libm.{differing}
 use Rattle.float32.proofs.to_bits.Goals as goal
 
 pub returns-else-x : goal.returns-else-x

@@ -1,5 +1,5 @@
 -- `time::age_ms` meets its contract. Assumes nothing.
-use Rattle.std.proofs.Common.{◌≡◌, arith, rules, le-ltb, lt-ltb}
+use Rattle.std.proofs.Common.{◌≡◌, arith, le-ltb, lt-ltb}
 use Rattle.time.specs.Time.{age, wrapping_sub}
 use Rattle.time.proofs.Modulo.{wraps}
 use Rattle.time.proofs.age_ms.Goals as goal

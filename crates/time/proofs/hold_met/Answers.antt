@@ -1,6 +1,5 @@
 -- `time::hold_met` meets its contract. Assumes nothing.
 use Rattle.time.specs.Time.{hold_met}
-use Rattle.std.proofs.Common.{rules}
 use Rattle.time.proofs.hold_met.Goals as goal
 
 pub returns-in-Some : goal.returns-in-Some

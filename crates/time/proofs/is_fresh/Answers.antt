@@ -1,6 +1,5 @@
 -- `time::is_fresh` meets its contract. Assumes nothing.
 use Rattle.time.specs.Time.{fresh}
-use Rattle.std.proofs.Common.{rules}
 use Rattle.time.proofs.is_fresh.Goals as goal
 
 pub returns-in-Some : goal.returns-in-Some

@@ -1,7 +1,6 @@
 -- `types::higher_request` meets its contract. Assumes nothing.
 use borrow.Author.Tests.{lt-ltb, le-ltb}
 use Rattle.types.specs.ActiveSet.{higher_request}
-use borrow.Author.Rules.{rules}
 use Rattle.types.proofs.higher_request.Goals as goal
 
 pub returns-then-rb-ra : goal.returns-then-rb-ra

@@ -1,6 +1,5 @@
 -- `wire::byte_below` meets its contract. Assumes nothing.
 use Rattle.wire.specs.Fields.{byte_below}
-use borrow.Author.Rules.{rules}
 use Rattle.wire.proofs.byte_below.Goals as goal
 
 pub returns : goal.returns

@@ -2,7 +2,6 @@
 use lib.Ieee.{binary32, of_bits}
 use mathlib.Core.Path.{◌∙◌, ap}
 use Rattle.wire.specs.Fields.{f32_at}
-use borrow.Author.Rules.{rules}
 use Rattle.wire.proofs.f32_at.Goals as goal
 
 pub returns : goal.returns

@@ -1,6 +1,5 @@
 -- `wire::flag_at` meets its contract. Assumes nothing.
 use Rattle.wire.specs.Fields.{flag_at}
-use borrow.Author.Rules.{rules}
 use Rattle.wire.proofs.flag_at.Goals as goal
 
 pub returns : goal.returns

@@ -5,7 +5,6 @@ use native.Mathlib.Omega.{arith}
 use Rattle.wire.specs.Fields.{u8_at, u16_at}
 use Rattle.wire.proofs.Number.{u16_is, u32_halves}
 use Rattle.wire.proofs.Head.{due, not_due}
-use borrow.Author.Rules.{rules}
 use Rattle.wire.proofs.frame_fits.Goals as goal
 
 -- the four bytes tell kind and length

@@ -3,7 +3,6 @@ use lib.Seq.{sets}
 use Prim.Native.Nat.{ℕ}
 use mathlib.Core.Path.{◌∙◌, ap}
 use Rattle.wire.specs.Fields.{le_f32, le32}
-use borrow.Author.Rules.{rules}
 use Rattle.wire.proofs.put_f32.Goals as goal
 
 pub returns : goal.returns

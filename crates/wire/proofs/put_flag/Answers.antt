@@ -3,7 +3,6 @@ use lib.Seq.{sets}
 use mathlib.Core.Bool.{Bool}
 use mathlib.Core.Path.{◌∙◌, sym, ap}
 use Rattle.wire.specs.Fields.{le_flag, le8}
-use borrow.Author.Rules.{rules}
 use Rattle.wire.proofs.put_flag.Goals as goal
 
 pub returns-then-b : goal.returns-then-b

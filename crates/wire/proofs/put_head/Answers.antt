@@ -2,7 +2,6 @@
 use Rattle.wire.specs.Fields.{le16, le_bytes}
 use Rattle.wire.specs.Frame.{frame_head}
 use Rattle.wire.proofs.Stores.{joined}
-use borrow.Author.Rules.{rules}
 use Rattle.wire.proofs.put_head.Goals as goal
 
 pub returns : goal.returns

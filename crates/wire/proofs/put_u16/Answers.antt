@@ -1,13 +1,9 @@
 -- `wire::put_u16` meets its contract. Assumes nothing.
-use lib.ListN.{length}
-use lib.Seq.{length-sets}
 use Rattle.wire.specs.Fields.{le8, le16}
-use mathlib.Core.Path.{◌∙◌, sym, ap}
+use mathlib.Core.Path.{sym}
 use native.Mathlib.Numerals.{add-one}
-use lib.ListN.{length-set}
 use Rattle.wire.proofs.Past.{sets_past}
 use Rattle.wire.proofs.Number.{le16_is}
-use borrow.Author.Rules.{rules}
 use Rattle.wire.proofs.put_u16.Goals as goal
 
 pub returns-then-at-s : goal.returns-then-at-s

@@ -3,12 +3,10 @@ use Rattle.wire.specs.Fields.{le16, le32, le_bytes}
 use mathlib.Core.Path.{◌≡◌, ◌∙◌, sym, ap}
 use Prim.Native.Nat.{◌+◌, ◌%◌, ◌/◌, suc}
 use native.Mathlib.Omega.{arith}
-use lib.ListN.{length-set, set}
 use lib.Seq.{sets}
 use Rattle.wire.proofs.Past.{sets_past}
 use Rattle.wire.proofs.Stores.{joined}
 use Rattle.wire.proofs.Number.{le32_is, le32_halves}
-use borrow.Author.Rules.{rules}
 use Rattle.wire.proofs.put_u32.Goals as goal
 
 pub returns-then-at-s-2 : goal.returns-then-at-s-2

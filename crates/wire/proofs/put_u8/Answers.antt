@@ -2,7 +2,6 @@
 use lib.Seq.{set_out}
 use mathlib.Core.Path.{refl, sym}
 use Rattle.wire.specs.Fields.{le8}
-use borrow.Author.Rules.{rules}
 use Rattle.wire.proofs.put_u8.Goals as goal
 
 pub returns-then-at-s : goal.returns-then-at-s

@@ -1,14 +1,7 @@
-use Prim.Native.Nat.{ℕ, ◌+◌, ◌-◌, ◌≤◌, min}
-use mathlib.Core.Path.{◌≡◌, ◌∙◌, sym, ap, refl}
-use mathlib.Core.List.{List}
-use mathlib.Core.Bool.{Bool, true, false}
-use native.Mathlib.Omega.{arith}
-use lib.Dec.{ltb}
-use lib.ListN.{length, set, replicate, length-replicate, replicate-append-replicate}
-use lib.Seq.{sets, length-sets}
-use borrow.Author.Tests.{ltb-true, ltb-false}
-use Rattle.wire.proofs.Past.{sets_past}
-use Rattle.wire.proofs.Stores.{sets_append}
+use Prim.Native.Nat.{◌-◌, ◌≤◌}
+use mathlib.Core.Path.{◌≡◌}
+use lib.ListN.{replicate}
+use lib.Seq.{sets}
 use Rattle.wire.proofs.put_zeros.Given as goal
 
 abbrev pub invariant-loop-i : goal.invariant-loop-i

@@ -3,7 +3,6 @@ use Rattle.wire.specs.Fields.{u8_at, u16_at}
 use mathlib.Core.Path.{sym}
 use Rattle.wire.proofs.Past.{number_past}
 use Rattle.wire.proofs.Number.{u16_is}
-use borrow.Author.Rules.{rules}
 use Rattle.wire.proofs.u16_at.Goals as goal
 
 pub returns-then-at-s : goal.returns-then-at-s

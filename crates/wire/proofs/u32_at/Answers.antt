@@ -3,7 +3,6 @@ use Rattle.wire.specs.Fields.{u8_at, u32_at}
 use mathlib.Core.Path.{sym}
 use Rattle.wire.proofs.Past.{number_past}
 use Rattle.wire.proofs.Number.{u32_is, u32_halves}
-use borrow.Author.Rules.{rules}
 use Rattle.wire.proofs.u32_at.Goals as goal
 
 pub returns-then-at-s-2 : goal.returns-then-at-s-2

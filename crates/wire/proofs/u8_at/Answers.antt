@@ -2,7 +2,6 @@
 use lib.ListN.{get_or-eq_default}
 use mathlib.Core.Path.{refl, sym}
 use Rattle.wire.specs.Fields.{u8_at}
-use borrow.Author.Rules.{rules}
 use Rattle.wire.proofs.u8_at.Goals as goal
 
 pub returns-then-at-s : goal.returns-then-at-s

@@ -3,7 +3,6 @@ use Prim.Native.Nat.{◌+◌}
 use native.Mathlib.Omega.{arith}
 use Rattle.wire.specs.Frame.{whole_frame}
 use borrow.Author.Tests.{le-ltb, lt-ltb}
-use borrow.Author.Rules.{rules}
 use Rattle.wire.proofs.whole_frame.Goals as goal
 
 pub returns-then-s-lt2 : goal.returns-then-s-lt2

@@ -1,8 +1,5 @@
 -- `types::ActiveSet::clear` meets its contract. Assumes nothing.
-use native.Mathlib.Omega.{arith}
 use Rattle.types.specs.ActiveSet.{clear_request}
-use Rattle.types.proofs.Slots.{index_lt}
-use borrow.Author.Rules.{rules}
 use Rattle.types.proofs.ActiveSet.clear.Goals as goal
 
 pub returns : goal.returns

@@ -2,11 +2,10 @@
 use mathlib.Core.Path.{◌≡◌, sym, ap, subst, ◌∙◌}
 use native.Mathlib.Nat.{le_of_eq}
 use native.Mathlib.Omega.{arith}
-use lib.ListN.{length, drop_of_length-le, length-map}
+use lib.ListN.{length, drop_of_length-le}
 use Rattle.types.specs.ActiveSet.{requested_action, highest, nominal, Highest}
 use Rattle.types.proofs.Slots.{taken_in}
 use Rattle.types.proofs.Highest.{requested_is_highest}
-use borrow.Author.Rules.{rules}
 use Rattle.types.proofs.ActiveSet.requested_action.Goals as goal
 use Rattle.types.proofs.ActiveSet.requested_action.Goals.{Start}
 

@@ -1,6 +1,5 @@
 -- `types::Vec3::horizontal_dist_home` meets its contract. Assumes nothing.
 use Rattle.types.specs.Vec3.{horizontal_dist_home}
-use borrow.Author.Rules.{rules}
 use Rattle.types.proofs.Vec3.horizontal_dist_home.Goals as goal
 
 pub returns : goal.returns

@@ -1,0 +1,11 @@
+-- `same_point` meets its contract. Assumes nothing.
+use Rattle.corners.specs.Acceptance.{same_point}
+use Rattle.corners.proofs.same_point.Goals as goal
+
+pub returns-then-p-q : goal.returns-then-p-q
+unfolding same_point
+returns-then-p-q c = rw c.if-p-q.true
+
+pub returns-else-p-q : goal.returns-else-p-q
+unfolding same_point
+returns-else-p-q c = rw c.if-p-q.false

@@ -1,0 +1,21 @@
+-- `frame_decision::put_slot` meets its contract. Assumes nothing.
+use Prim.Native.Nat.{◌+◌, suc}
+use mathlib.Core.Path.{◌≡◌}
+use native.Mathlib.Omega.{arith}
+use borrow.Author.Rules.{rules}
+use Rattle.wire.specs.Fields.{le_flag, le8}
+use Rattle.options.specs.Enums.{le_action, le_reason}
+use Rattle.frame_decision.specs.Slots.{le_slot}
+use Rattle.frame_decision.proofs.put_slot.Goals as goal
+
+pub returns-then-x : goal.returns-then-x
+unfolding le_slot le_reason le_action le_flag le8
+returns-then-x c =
+    let at = c.args.at in
+    let one : at + 1 ≡ suc at = omega arith in
+    let two : at + 2 ≡ suc (suc at) = omega arith in
+    simp c.if-x.true (cc)
+
+pub returns-else-x : goal.returns-else-x
+unfolding le_slot le_flag le8
+returns-else-x c = simp c.if-x.false

@@ -1,0 +1,20 @@
+-- `frame_decision::slots_at` meets its contract. Assumes nothing.
+use Prim.Native.Nat.{ℕ, ◌-◌, ◌≤◌, ◌<◌}
+use mathlib.Core.Path.{◌≡◌, ◌∙◌, sym, ap, refl}
+use native.Mathlib.Numerals.{add-one}
+use native.Mathlib.Omega.{arith}
+use lib.ListN.{length, take, length-set}
+use lib.Seq.{take-suc-set, take_all}
+use Rattle.frame_decision.specs.Slots.{slots_at}
+use Rattle.frame_decision.proofs.slots_at.Goals as goal
+
+pub loop-i-init : goal.loop-i-init
+unfolding slots_at
+loop-i-init c = (omega arith, (refl, refl))
+
+pub loop-i-preserved : goal.loop-i-preserved
+unfolding slots_at
+loop-i-preserved c =
+    let l = c.loop-i in
+    let h : l.i < length l.reqs = omega arith in
+    (omega arith, (simp length-set l.invariant.1.0, rw (add-one, take-suc-set, c.slot_at-y.ensures, l.invariant.1.1)))

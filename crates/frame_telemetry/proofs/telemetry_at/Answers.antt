@@ -1,0 +1,47 @@
+-- `frame_telemetry::telemetry_at` meets its contract. Assumes nothing.
+use mathlib.Core.Path.{◌≡◌, ◌∙◌}
+use mathlib.Core.List.{List}
+use mathlib.Core.Bool.{true}
+use Prim.Native.Nat.{ℕ}
+use Rattle.options.specs.Options.{valid_option}
+use Rattle.options.specs.Position.{option_position_at}
+use Rattle.frame_telemetry.specs.Readings.{option_gps_at}
+use Rattle.frame_telemetry.specs.Checked.{position_field, gps_valid, gps_field, battery_valid, battery_at, battery_field, with_status}
+use Rattle.frame_telemetry.specs.TelemetryFrame.{telemetry_at, read_body}
+use Rattle.frame_telemetry.proofs.Checked.{accepted, declined, by_reading, position, gps, battery}
+use Rattle.frame_telemetry.proofs.telemetry_at.Goals as goal
+
+-- where the readings before the status are valid, the status decides
+whole : (s : List ℕ) → valid_option s 8 28 ≡ true → gps_valid s ≡ true → battery_valid s ≡ true → with_status s (option_position_at s 8) (option_gps_at s 37) (battery_at s) ≡ read_body s
+unfolding with_status telemetry_at battery_at
+whole s p g b = simp (by_reading s, p, g, b)
+
+pub returns-in_default : goal.returns-in_default
+unfolding position_field gps_field battery_field
+returns-in_default c =
+    let s = c.args.s.now in
+    simp (by_reading s, declined position (valid_option s 8 28) (option_position_at s 8) c.position_field-p.ensures c.in_default.is)
+
+pub returns-in_default-g : goal.returns-in_default-g
+unfolding position_field gps_field battery_field
+returns-in_default-g c =
+    let s = c.args.s.now in
+    let v1 = accepted position (valid_option s 8 28) (option_position_at s 8) c.position_field-p.ensures c.in-Valid.is in
+    simp (by_reading s, v1.0, declined gps (gps_valid s) (option_gps_at s 37) c.gps_field-g.ensures c.in_default-g.is)
+
+pub returns-in_default-b : goal.returns-in_default-b
+unfolding position_field gps_field battery_field
+returns-in_default-b c =
+    let s = c.args.s.now in
+    let v1 = accepted position (valid_option s 8 28) (option_position_at s 8) c.position_field-p.ensures c.in-Valid.is in
+    let v2 = accepted gps (gps_valid s) (option_gps_at s 37) c.gps_field-g.ensures c.in-Valid-g.is in
+    simp (by_reading s, v1.0, v2.0, declined battery (battery_valid s) (battery_at s) c.battery_field-b.ensures c.in_default-b.is)
+
+pub returns : goal.returns
+unfolding position_field gps_field battery_field
+returns c =
+    let s = c.args.s.now in
+    let v1 = accepted position (valid_option s 8 28) (option_position_at s 8) c.position_field-p.ensures c.in-Valid.is in
+    let v2 = accepted gps (gps_valid s) (option_gps_at s 37) c.gps_field-g.ensures c.in-Valid-g.is in
+    let v3 = accepted battery (battery_valid s) (battery_at s) c.battery_field-b.ensures c.in-Valid-b.is in
+    c.with_status.ensures ∙ (λ j. with_status s (v1.1 j) (v2.1 j) (v3.1 j)) ∙ whole s v1.0 v2.0 v3.0
