@@ -7,16 +7,20 @@ ghost use Rattle.std.specs.Prelude.{true, ◌++◌, ◌≡◌, ◌≤◌, length
 ghost use Rattle.std.proofs.Math.Seq.{slice};
 ghost use Rattle.decided.specs.Program.{pending, next, newly};
 
+use std::alloc::Alloc;
+use std::env;
+use std::env::Env;
+use std::io::{Eprint, Print, Read};
+
 use decided::Kept;
-use libc::{STDERR_FILENO, STDIN_FILENO, STDOUT_FILENO};
 use stream::Session;
 
 // Writes the first bytes of the output block out; false where there are not so many, or where the write fails.
-fn write_out(put: usize, output: &[u8]) -> bool
+fn write_out<P: Print>(rt: &P, put: usize, output: &[u8]) -> bool
     ensures { result ≡ true → put ≤ length output.now }
 {
     if put <= output.len() {
-        io::write_all(STDOUT_FILENO, &output[..put])
+        rt.write_all(&output[..put]).is_ok()
     } else {
         false
     }
@@ -24,27 +28,37 @@ fn write_out(put: usize, output: &[u8]) -> bool
 
 // Reads once, behind the `have` bytes that are in, and answers how many are in then: no more than `have` at the end of the
 // input, and where a read fails.
-fn read_behind(input: &mut [u8], have: usize) -> usize
+fn read_behind<R: Read>(reader: &mut R, input: &mut [u8], have: usize) -> usize
     requires { have ≤ length input.old }
     ensures lower_bound { (have ≤ result) × (result ≤ length input.old) }
     ensures input_unchanged { take have input.new ≡ take have input.old }
 {
-    let got = libc::read(STDIN_FILENO, &mut input[have..]);
-    have + io::count(got, &input[have..])
+    match reader.read(&mut input[have..]) {
+        Ok(got) => have + got,
+        Err(_) => have,
+    }
 }
 
 // Nothing was left to answer: moves the rest to the front and reads behind it. At the end of the input that is answered, and the
 // program ends.
-fn read_on(session: Session, from: usize, have: usize, input: &mut [u8], output: &mut [u8]) -> Kept
+fn read_on<P: Print, R: Read>(
+    rt: &P,
+    reader: &mut R,
+    session: Session,
+    from: usize,
+    have: usize,
+    input: &mut [u8],
+    output: &mut [u8],
+) -> Kept
     ensures from_le_have { (result.from ≤ result.have) × (result.have ≤ length input.old) × (result.session ≡ session) }
     ensures more_value { result.more ≡ ltb (length (slice from have input.old)) result.have }
     ensures input_after { slice result.from result.have input.new ≡ slice from have input.old ++ drop (length (slice from have input.old)) (slice result.from result.have input.new) }
 {
     let rest = decided::move_front(input, from, have);
-    let full = read_behind(input, rest);
+    let full = read_behind(reader, input, rest);
     if full == rest {
         let due = session.due;
-        write_out(stream::end_input(due, rest, output), output);
+        write_out(rt, stream::end_input(due, rest, output), output);
     }
     Kept {
         session: session,
@@ -56,7 +70,14 @@ fn read_on(session: Session, from: usize, have: usize, input: &mut [u8], output:
 
 // A turn: answers what it can of the bytes that were read and writes the answers out; where nothing was left to answer, it reads.
 // After a refusal or a failed write the program ends.
-fn turn(k: Kept, input: &mut [u8], output: &mut [u8], held: &mut [u8; 1045]) -> Kept
+fn turn<P: Print, R: Read>(
+    rt: &P,
+    reader: &mut R,
+    k: Kept,
+    input: &mut [u8],
+    output: &mut [u8],
+    held: &mut [u8; 1045],
+) -> Kept
     requires { (k.from ≤ k.have) × (k.have ≤ length input.old) }
     ensures from_le_have { (result.from ≤ result.have) × (result.have ≤ length input.old) }
     ensures held_after { pending result input.new held.new ≡ next (length output.old) (pending k input.old held.old) (newly (pending k input.old held.old) (pending result input.new held.new)) }
@@ -68,9 +89,9 @@ fn turn(k: Kept, input: &mut [u8], output: &mut [u8], held: &mut [u8; 1045]) -> 
     let after = t.session;
     let taken = t.taken;
     if taken == 0 {
-        return read_on(after, from, have, input, output);
+        return read_on(rt, reader, after, from, have, input, output);
     }
-    let ok = write_out(t.put, output);
+    let ok = write_out(rt, t.put, output);
     let due = after.due;
     Kept {
         session: after,
@@ -84,9 +105,9 @@ fn turn(k: Kept, input: &mut [u8], output: &mut [u8], held: &mut [u8; 1045]) -> 
 // 65,537 bytes, the longest, beside a partial one; `held` for eight areas of sixteen corners, the most that a frame of kind 13 can
 // hold. The count of turns is there because a proved loop has to end; no input is that long. That every place is reached by turns
 // (`Turns`) is the loop's invariant; a struct that is handed back would cost each frame 4 %.
-fn decide() {
+fn decide<P: Print, R: Read>(rt: &P, reader: &mut R) {
     let mut input = [0u8; 131072];
-    let mut output = io::large_buffer();
+    let mut output = [0u8; 65536];
     let mut held = [0u8; 1045];
     let mut k = Kept {
         session: stream::begin(),
@@ -96,18 +117,24 @@ fn decide() {
     };
     let mut turns = u64::MAX;
     while turns > 0 && k.more {
-        k = turn(k, &mut input, &mut output, &mut held);
+        k = turn(rt, reader, k, &mut input, &mut output, &mut held);
         turns -= 1;
     }
 }
 
-fn main() {
-    if os::arg_count() > 1 {
-        io::write_all(
-            STDERR_FILENO,
-            b"usage: decide, without a word: it reads frames of kinds 1 or 11, 2 or 8, 13 and 3 from standard input\n",
-        );
+// Whether the program was started with a word behind its name.
+fn has_words<R: Env + Alloc>(rt: &R) -> bool {
+    match env::args(rt) {
+        Ok(words) => words.len() > 1,
+        Err(_) => true,
+    }
+}
+
+fn main(rt: HostRuntime) {
+    if has_words(&rt) {
+        let _told = eprintln!(rt; "usage: decide, without a word: it reads frames of kinds 1 or 11, 2 or 8, 13 and 3 from standard input").is_ok();
         return;
     }
-    decide();
+    let mut reader = rt.stdin();
+    decide(&rt, &mut reader);
 }

@@ -153,7 +153,7 @@ impl DisarmGate {
 
 // A gate is lent to `reset` and comes back as it was left.
 pub fn reset_lent(gate: DisarmGate) -> DisarmGate
-    ensures { result ≡ closed }
+    ensures as_left { result ≡ closed }
 {
     let mut g = gate;
     g.reset();

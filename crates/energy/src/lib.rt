@@ -1,5 +1,6 @@
 // The Rust's energy.rs: what a return to launch and a landing cost.
 #![tactic(auto)]
+
 ghost use Rattle.std.specs.Prelude.{◌≡◌};
 ghost use Rattle.types.specs.Vec3.{alt_m};
 ghost use Rattle.energy.specs.Energy.{margin_of, insufficient_of, rtl_wh, land_wh, rtl_energy_at, rtl_energy};

@@ -1,5 +1,6 @@
 // Kinds 1 and 11: Config in its frame of 246 bytes, read and written. Their bodies are the same.
 #![tactic(auto)]
+
 ghost use Rattle.std.specs.Prelude.{◌≡◌};
 ghost use Rattle.std.proofs.lemmas.List.Edits.{sets};
 ghost use Rattle.wire.specs.Cell.{bytes_of};

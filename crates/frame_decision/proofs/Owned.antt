@@ -1,7 +1,6 @@
 -- What a function that has a Decision learns of it: nineteen slots, and each float is within its type. Assumes nothing.
 use mathlib.Core.List.{List}
 use lib.Dec.{T}
-use lib.ListN.{length-map}
 use lib.Ieee.{binary32, fits}
 use lib.Ieee.Bits.{of_bits-fits}
 use mir.Val.{Val}

@@ -1,5 +1,6 @@
 // Kind 4: a Decision in its frame of 95 bytes, read and written.
 #![tactic(auto)]
+
 ghost use Rattle.std.specs.Prelude.{◌≡◌, ◌<◌};
 ghost use Rattle.std.proofs.lemmas.List.Edits.{sets};
 ghost use Rattle.wire.specs.Frame.{room_fault, frame_written};

@@ -1,5 +1,6 @@
 // A fence that is written and read again is the same: the round trip as code.
 #![tactic(auto)]
+
 ghost use Rattle.std.specs.Prelude.{◌≡◌, ◌+◌, ◌*◌, cond, ltb, take};
 ghost use Rattle.frame_fence.specs.FenceFrame.{refused_fence, fence_sent};
 

@@ -1,5 +1,6 @@
 // A Telemetry that is written and read again is the same: the round trip as code.
 #![tactic(auto)]
+
 ghost use Rattle.std.specs.Prelude.{◌≡◌};
 
 use frame_telemetry::TelemetryRead;

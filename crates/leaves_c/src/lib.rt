@@ -1,6 +1,7 @@
 // The leaves that no entry of `failsafe` hands out, for C: tests/replay holds them to the Rust's stored answers. Values of more
 // than a number or two come and go in their frames.
 #![tactic(auto)]
+
 ghost use Rattle.std.specs.Prelude.{false, ◌≡◌, take};
 ghost use Rattle.wire.specs.Frame.{room_fault, frame_written};
 ghost use Rattle.time.specs.Time.{wrapping, age, fresh};

@@ -1,5 +1,6 @@
 // Document 02, L12: an accepted fence of kind 8 written in one form.
 #![tactic(auto)]
+
 ghost use Rattle.std.specs.Prelude.{◌≡◌, ◌+◌, ◌*◌};
 ghost use Rattle.frame_fence.specs.FenceFrame.{fence_of};
 ghost use Rattle.spelling.specs.Spell.{head_fault, in_form, judged_again, spelled_fence, spell_number, spell_output};

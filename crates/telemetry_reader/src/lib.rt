@@ -1,6 +1,7 @@
 // The reader of kind 3 frames once more, with the same answer: tests first, then the values. `frame_telemetry::read_telemetry` is compiled into the
 // step as long as nothing else of the library calls it, so whoever reads such a frame beside a step calls this one.
 #![tactic(auto)]
+
 ghost use Rattle.std.specs.Prelude.{◌≡◌, ◌<◌};
 ghost use Rattle.options.specs.Position.{option_position_at};
 ghost use Rattle.frame_telemetry.specs.Readings.{fix_at, landed_at, option_gps_at, stamped_f32_at, stamped_bool_at, stamped_landed_at};

@@ -4,7 +4,9 @@
 #![tactic(auto)]
 ghost use Rattle.std.specs.Prelude.{min, ◌≡◌};
 
-use libc::{STDERR_FILENO, STDOUT_FILENO};
+use std::env;
+use std::io::{Eprint, Print};
+
 use types::OptionU32;
 
 // The frames that a block has room for, of 106 bytes each.
@@ -17,15 +19,22 @@ fn block_frames(left: usize) -> usize
     wire::smaller(left, BLOCK_FRAMES)
 }
 
-// An argument that is missing or longer than 32 bytes is read as an empty one, which is no number.
-fn argument(i: usize) -> OptionU32 {
-    let mut text = [0u8; 32];
-    let n = os::arg(i, &mut text);
-    trial::read_decimal(&text[..n])
+// An argument that is missing or longer than 32 bytes is no number.
+fn argument(text: Option<String>) -> OptionU32 {
+    match text {
+        Some(word) => {
+            if word.len() <= 32 {
+                trial::read_decimal(word.as_bytes())
+            } else {
+                OptionU32::None
+            }
+        }
+        None => OptionU32::None,
+    }
 }
 
 // Ends early where a write fails.
-fn write_frames(seed: u32, count: u32) {
+fn write_frames<P: Print>(rt: &P, seed: u32, count: u32) {
     let mut block = [0u8; 65508];
     let mut g = trial::seeded(seed);
     let mut left = count as usize;
@@ -33,32 +42,35 @@ fn write_frames(seed: u32, count: u32) {
     while left > 0 && ok {
         let n = block_frames(left);
         g = trial::fill(g, n, &mut block);
-        ok = io::write_all(STDOUT_FILENO, &block[..106 * n]);
+        ok = rt.write_all(&block[..106 * n]).is_ok();
         left -= n;
     }
 }
 
-fn complain() {
-    io::write_all(
-        STDERR_FILENO,
-        b"usage: trials SEED COUNT, two decimal numbers from 0 to 4294967295\n",
-    );
+fn complain<P: Eprint>(rt: &P) {
+    let _told = eprintln!(rt; "usage: trials SEED COUNT, two decimal numbers from 0 to 4294967295").is_ok();
 }
 
-fn main() {
-    if os::arg_count() != 3 {
-        complain();
+fn main(rt: HostRuntime) {
+    let Ok(mut words) = env::args(&rt) else {
+        complain(&rt);
         return;
-    }
-    let s = argument(1);
-    let c = argument(2);
+    };
+    let _program = words.next();
+    let s = argument(words.next());
+    let c = argument(words.next());
+    let more = words.next().is_some();
     let OptionU32::Some(seed) = s else {
-        complain();
+        complain(&rt);
         return;
     };
     let OptionU32::Some(count) = c else {
-        complain();
+        complain(&rt);
         return;
     };
-    write_frames(seed, count);
+    if more {
+        complain(&rt);
+        return;
+    }
+    write_frames(&rt, seed, count);
 }

@@ -1,5 +1,6 @@
 // The Rust's triggers.rs: one function for each family of triggers, and update. Its timers are in `timers`.
 #![tactic(auto)]
+
 ghost use Rattle.std.specs.Prelude.{◌≡◌};
 ghost use Rattle.time.specs.Time.{wrapping};
 ghost use Rattle.triggers.specs.Families.{invalid_input, gcs_age, stage_request, gcs_clearing, gcs_stage, gcs_link, rc_link, few_sats, many_sats, poor_hdop, good_hdop, degraded, recovered, fixed, gps, ekf, fence_approach, fence_breach, altitude_max, in_air, altitude_min, fence, is_present, stale_battery, low_voltage, battery_warn, battery_low, battery_critical, battery, energy_marginal, energy};

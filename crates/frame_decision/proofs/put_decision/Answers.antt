@@ -1,9 +1,8 @@
 -- `frame_decision::put_decision` meets its contract: the calls' contracts, one after the other, are a run of stores. Assumes nothing.
 use Prim.Native.Nat.{ℕ}
-use mathlib.Core.Path.{◌≡◌, ◌∙◌, ap, refl}
+use mathlib.Core.Path.{◌≡◌, ◌∙◌, refl}
 use mathlib.Core.List.{List, [], ◌∷◌}
-use lib.ListN.{length}
-use lib.Seq.{sets, length-sets}
+use lib.Seq.{sets}
 use Rattle.wire.specs.Fields.{le8, le_flag, le_bytes, le16, le32, le_f32}
 use Rattle.wire.specs.Frame.{frame_head}
 use Rattle.wire.proofs.Stores.{Piece, put, after, done, into, ran}

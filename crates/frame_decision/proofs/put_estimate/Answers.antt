@@ -1,9 +1,8 @@
 -- `frame_decision::put_estimate` meets its contract: the calls' contracts, one after the other, are a run of stores. Assumes nothing.
 use Prim.Native.Nat.{ℕ}
-use mathlib.Core.Path.{◌≡◌, ◌∙◌, ap, refl}
+use mathlib.Core.Path.{◌≡◌, ◌∙◌, refl}
 use mathlib.Core.List.{List, [], ◌∷◌}
-use lib.ListN.{length}
-use lib.Seq.{sets, length-sets}
+use lib.Seq.{sets}
 use Rattle.wire.specs.Fields.{le_flag, le_bytes, le32, le_f32}
 use Rattle.wire.proofs.Stores.{Piece, put, after, done, into, ran}
 use Rattle.options.specs.Options.{le_option_f32}

@@ -2,7 +2,6 @@
 use Prim.Native.Nat.{◌+◌, suc}
 use mathlib.Core.Path.{◌≡◌}
 use native.Mathlib.Omega.{arith}
-use borrow.Author.Rules.{rules}
 use Rattle.wire.specs.Fields.{le_flag, le8}
 use Rattle.options.specs.Enums.{le_action, le_reason}
 use Rattle.frame_decision.specs.Slots.{le_slot}

@@ -1,11 +1,11 @@
 -- `frame_decision::put_slots` meets its contract. Assumes nothing.
-use Prim.Native.Nat.{ℕ, zero, suc, ◌+◌, ◌*◌, ◌-◌, ◌≤◌, ◌<◌}
+use Prim.Native.Nat.{ℕ, zero, suc, ◌+◌, ◌*◌, ◌-◌, ◌<◌}
 use mathlib.Core.Path.{◌≡◌, ◌∙◌, sym, ap, refl}
 use mathlib.Core.List.{List, ◌++◌, append_assoc, append-nil}
 use native.Mathlib.Numerals.{add-one}
 use native.Mathlib.Omega.{arith}
 use lib.ListN.{length, get_or, replicate, length-append, replicate-append-replicate}
-use lib.Seq.{sets, length-sets}
+use lib.Seq.{sets}
 use Rattle.types.specs.declared.Slot.{Slot}
 use Rattle.types.specs.ActiveSet.{no_request}
 use Rattle.wire.specs.Fields.{le_flag, le8}
@@ -54,4 +54,3 @@ returns c =
     ∙ (λ j. sets (c.put_zeros.ensures j) 7 (le_slots (e j) a.a.reqs ++ replicate (57 - 3 * e j) 0))
     ∙ ap (sets (sets a.s.now 7 (replicate 57 0)) 7) (append-nil (le_slots 19 a.a.reqs))
     ∙ over_all a.s.now 7 (replicate 57 0) (le_slots 19 a.a.reqs) (sym (wide 19 a.a.reqs))
-

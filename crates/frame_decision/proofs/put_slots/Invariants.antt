@@ -1,17 +1,9 @@
-use Prim.Native.Nat.{ℕ, zero, suc, ◌+◌, ◌*◌, ◌-◌, ◌≤◌, ◌<◌}
-use mathlib.Core.Path.{◌≡◌, ◌∙◌, sym, ap, refl}
-use mathlib.Core.List.{List, ◌++◌, append_assoc, append-nil}
-use native.Mathlib.Numerals.{add-one}
-use native.Mathlib.Omega.{arith}
-use lib.ListN.{length, get_or, replicate, length-append, replicate-append-replicate}
-use lib.Seq.{sets, length-sets}
-use Rattle.types.specs.declared.Slot.{Slot}
-use Rattle.types.specs.ActiveSet.{no_request}
-use Rattle.wire.specs.Fields.{le_flag, le8}
-use Rattle.frame_decision.specs.Slots.{le_slot, le_slots}
-use Rattle.wire.proofs.Over.{over_all}
-use Rattle.wire.specs.Laid.{laid}
-use Rattle.wire.proofs.Laid.{laid_middle, zeroed}
+use Prim.Native.Nat.{◌*◌, ◌-◌, ◌≤◌}
+use mathlib.Core.Path.{◌≡◌}
+use mathlib.Core.List.{◌++◌}
+use lib.ListN.{replicate}
+use lib.Seq.{sets}
+use Rattle.frame_decision.specs.Slots.{le_slots}
 use Rattle.frame_decision.proofs.put_slots.Given as goal
 
 abbrev pub invariant-loop-i : goal.invariant-loop-i

@@ -1,5 +1,4 @@
 -- `frame_decision::slot_at` meets its contract. Assumes nothing.
-use borrow.Author.Rules.{rules}
 use Rattle.frame_decision.specs.Slots.{slot_at}
 use Rattle.frame_decision.proofs.slot_at.Goals as goal
 

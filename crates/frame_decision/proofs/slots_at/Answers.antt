@@ -1,10 +1,10 @@
 -- `frame_decision::slots_at` meets its contract. Assumes nothing.
-use Prim.Native.Nat.{ℕ, ◌-◌, ◌≤◌, ◌<◌}
-use mathlib.Core.Path.{◌≡◌, ◌∙◌, sym, ap, refl}
+use Prim.Native.Nat.{◌<◌}
+use mathlib.Core.Path.{refl}
 use native.Mathlib.Numerals.{add-one}
 use native.Mathlib.Omega.{arith}
-use lib.ListN.{length, take, length-set}
-use lib.Seq.{take-suc-set, take_all}
+use lib.ListN.{length, length-set}
+use lib.Seq.{take-suc-set}
 use Rattle.frame_decision.specs.Slots.{slots_at}
 use Rattle.frame_decision.proofs.slots_at.Goals as goal
 

@@ -1,7 +1,6 @@
 -- `frame_decision::write_decision` meets its contract. Assumes nothing.
 use mathlib.Core.Path.{◌∙◌}
 use native.Mathlib.Omega.{arith}
-use borrow.Author.Rules.{rules}
 use Rattle.wire.proofs.Head.{room, no_room}
 use Rattle.frame_decision.specs.DecisionFrame.{decision_frame}
 use Rattle.frame_decision.proofs.Size.{size}

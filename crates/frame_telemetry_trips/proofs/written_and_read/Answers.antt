@@ -1,0 +1,123 @@
+-- `frame_telemetry_trips::written_and_read` meets its contract. What is known of the floats and numbers of a Telemetry comes from its type. Assumes nothing.
+use Prim.Native.Nat.{◌<◌, ◌^◌}
+use mathlib.Core.Path.{◌≡◌, ◌∙◌, ap}
+use mathlib.Core.List.{List, ◌++◌, append-nil}
+use lib.Dec.{T, lit<}
+use lib.ListN.{replicate}
+use lib.Ieee.{binary32, fits}
+use lib.Ieee.Bits.{of_bits-fits}
+use mir.Val.{Val}
+use denote.Shadow.{shadow}
+use denote.Floats.{passes}
+use Rattle.types.specs.contracts.OptionU8.{the_field as u8_field, the_type as u8_type}
+use Rattle.types.specs.contracts.OptionU32.{the_field as u32_field, the_type as u32_type}
+use Rattle.types.specs.contracts.OptionF32.{the_field as f32_field, the_type as f32_type}
+use Rattle.types.specs.contracts.OptionPositionSample.{the_field as position_field_lem, the_type as position_type}
+use Rattle.types.specs.contracts.OptionGpsSample.{the_field as gps_field_lem, the_type as gps_type}
+use Rattle.types.specs.contracts.OptionStampedF32.{the_field as stamped_f32_field_lem, the_type as stamped_f32_type}
+use Rattle.types.specs.contracts.OptionStampedBool.{the_field as stamped_bool_field_lem, the_type as stamped_bool_type}
+use Rattle.types.specs.contracts.OptionStampedLandedState.{the_field as landed_field_lem, the_type as landed_type}
+use Rattle.types.specs.declared.GpsFix.{GpsFix}
+use Rattle.types.specs.declared.LandedState.{LandedState}
+use Rattle.types.specs.declared.OptionU8.{OptionU8}
+use Rattle.types.specs.declared.OptionU32.{OptionU32}
+use Rattle.types.specs.declared.OptionF32.{OptionF32}
+use Rattle.types.specs.declared.OptionPositionSample.{OptionPositionSample}
+use Rattle.types.specs.declared.OptionGpsSample.{OptionGpsSample}
+use Rattle.types.specs.declared.OptionStampedF32.{OptionStampedF32}
+use Rattle.types.specs.declared.OptionStampedBool.{OptionStampedBool}
+use Rattle.types.specs.declared.OptionStampedLandedState.{OptionStampedLandedState}
+use Rattle.types.specs.declared.Telemetry.{Telemetry}
+use Rattle.types.specs.Numbers.{fix_number, landed_number}
+use Rattle.wire.specs.Cell.{Within}
+use Rattle.wire.specs.Frame.{frame_written}
+use Rattle.options.specs.Options.{u8_or_zero, u32_or_zero, f32_or_zero}
+use Rattle.options.specs.Position.{position_cells}
+use Rattle.frame_telemetry.specs.Readings.{gps_cells, stamped_f32_cells, stamped_bool_cells, stamped_landed_cells}
+use Rattle.frame_telemetry.specs.TelemetryFrame.{read_telemetry, battery_cells, status_cells, telemetry_cells, telemetry_frame}
+use Rattle.frame_telemetry.proofs.Size.{size}
+use Rattle.frame_telemetry_trips.proofs.Trips.{within_joined, value_back}
+use Rattle.frame_telemetry_trips.proofs.written_and_read.Goals as goal
+use Rattle.frame_telemetry_trips.proofs.written_and_read.Goals.{Start}
+
+u8_within : (o : OptionU8) (v : List Val) → shadow (u8_field.row.own_val (u8_type.to o) v) → u8_or_zero o < 2 ^ 8
+u8_within OptionU8.None v h = lit< tt
+u8_within (OptionU8.Some n) v h = h.1.1.1.1.0.1
+
+u32_within : (o : OptionU32) (v : List Val) → shadow (u32_field.row.own_val (u32_type.to o) v) → u32_or_zero o < 2 ^ 32
+u32_within OptionU32.None v h = lit< tt
+u32_within (OptionU32.Some n) v h = h.1.1.1.1.0.1
+
+f32_within : (o : OptionF32) (v : List Val) → shadow (f32_field.row.own_val (f32_type.to o) v) → T (fits binary32 (f32_or_zero o))
+f32_within OptionF32.None v h = of_bits-fits binary32 0
+f32_within (OptionF32.Some x) v h = passes _ h.1.1.1.1.0.1
+
+fix_within : (f : GpsFix) → fix_number f < 2 ^ 8
+fix_within GpsFix.None = lit< tt
+fix_within GpsFix.Fix2D = lit< tt
+fix_within GpsFix.Fix3D = lit< tt
+
+landed_within : (l : LandedState) → landed_number l < 2 ^ 8
+landed_within LandedState.Undefined = lit< tt
+landed_within LandedState.OnGround = lit< tt
+landed_within LandedState.InAir = lit< tt
+landed_within LandedState.Takeoff = lit< tt
+landed_within LandedState.Landing = lit< tt
+
+position_within : (o : OptionPositionSample) (v : List Val) → shadow (position_field_lem.row.own_val (position_type.to o) v) → Within (position_cells o)
+position_within OptionPositionSample.None v h = let f = of_bits-fits binary32 0 in (lit< tt, (f, (f, (f, (f, (f, (f, tt)))))))
+position_within (OptionPositionSample.Some p) v h =
+    let q = h.1.1.1.1.0.1.1 in
+    let n = q.1.0.1.1 in
+    let w = q.1.1.0.1.1 in
+    (q.0.1, (passes _ n.0.1, (passes _ n.1.0.1, (passes _ n.1.1.0.1, (passes _ w.0.1, (passes _ w.1.0.1, (passes _ w.1.1.0.1, tt)))))))
+
+gps_within : (o : OptionGpsSample) (v : List Val) → shadow (gps_field_lem.row.own_val (gps_type.to o) v) → Within (gps_cells o)
+gps_within OptionGpsSample.None v h = (lit< tt, (lit< tt, (lit< tt, (of_bits-fits binary32 0, tt))))
+gps_within (OptionGpsSample.Some g) v h =
+    let q = h.1.1.1.1.0.1.1 in
+    (q.0.1, (fix_within g.fix, (u8_within g.sats _ q.1.1.0, (f32_within g.hdop _ q.1.1.1.0, tt))))
+
+stamped_f32_within : (o : OptionStampedF32) (v : List Val) → shadow (stamped_f32_field_lem.row.own_val (stamped_f32_type.to o) v) → Within (stamped_f32_cells o)
+stamped_f32_within OptionStampedF32.None v h = (lit< tt, (of_bits-fits binary32 0, tt))
+stamped_f32_within (OptionStampedF32.Some t x) v h = let q = h.1.1.1.1 in (q.0.1, (passes _ q.1.0.1, tt))
+
+stamped_bool_within : (o : OptionStampedBool) (v : List Val) → shadow (stamped_bool_field_lem.row.own_val (stamped_bool_type.to o) v) → Within (stamped_bool_cells o)
+stamped_bool_within OptionStampedBool.None v h = (lit< tt, tt)
+stamped_bool_within (OptionStampedBool.Some t b) v h = (h.1.1.1.1.0.1, tt)
+
+stamped_landed_within : (o : OptionStampedLandedState) (v : List Val) → shadow (landed_field_lem.row.own_val (landed_type.to o) v) → Within (stamped_landed_cells o)
+stamped_landed_within OptionStampedLandedState.None v h = (lit< tt, (lit< tt, tt))
+stamped_landed_within (OptionStampedLandedState.Some t l) v h = (h.1.1.1.1.0.1, (landed_within l, tt))
+
+-- what its type says of each Telemetry
+within : (c : Start) → Within (telemetry_cells c.args.t)
+unfolding telemetry_cells battery_cells status_cells
+within c =
+    let t = c.args.t in
+    let g = c.well_formed.0.1.1 in
+    let g3 = g.1.1.1 in
+    let b = g3.0.1.1 in
+    let g5 = g3.1.1 in
+    let voltage = stamped_f32_within t.battery.voltage_v _ b.0 in
+    let percent = stamped_f32_within t.battery.percent _ b.1.0 in
+    let remaining = stamped_f32_within t.battery.remaining_wh _ b.1.1.0 in
+    let armed = stamped_bool_within t.armed _ g5.0 in
+    let landed = stamped_landed_within t.landed _ g5.1.0 in
+    let rc = stamped_bool_within t.rc_ok _ g5.1.1.0 in
+    let ekf = stamped_bool_within t.ekf_ok _ g5.1.1.1.0 in
+    let battery : Within (battery_cells t.battery) = (voltage.0, (voltage.1.0, (percent.0, (percent.1.0, remaining)))) in
+    let status : Within (status_cells t) = (u32_within t.gcs_heartbeat_ms _ g3.1.0, (armed.0, (landed.0, (landed.1.0, (rc.0, ekf))))) in (
+      g.0.1,
+      within_joined (position_cells t.position) (gps_cells t.gps ++ (battery_cells t.battery ++ status_cells t)) (position_within t.position _ g.1.0)
+          (within_joined (gps_cells t.gps) (battery_cells t.battery ++ status_cells t) (gps_within t.gps _ g.1.1.0)
+          (within_joined (battery_cells t.battery) (status_cells t) battery status)),
+    )
+
+room : (t : Telemetry) → frame_written (telemetry_frame t) (replicate 106 0) ≡ telemetry_frame t
+unfolding frame_written
+room t = simp (size t) (append-nil (telemetry_frame t))
+
+pub returns : goal.returns
+returns c =
+    c.read_telemetry.ensures ∙ ap read_telemetry (c.write_telemetry.ensures.1 ∙ room c.args.t) ∙ value_back c.args.t (within c.before.before.before.before.before)

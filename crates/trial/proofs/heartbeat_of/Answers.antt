@@ -1,0 +1,12 @@
+-- `trial::heartbeat_of` meets its contract. Assumes nothing.
+use Rattle.trial.specs.Trial.{heartbeat_of}
+use Rattle.std.proofs.Common.{rules}
+use Rattle.trial.proofs.heartbeat_of.Goals as goal
+
+pub returns-then-flag_of : goal.returns-then-flag_of
+unfolding heartbeat_of
+returns-then-flag_of c = rw (← c.flag_of.ensures, c.if-flag_of.true, ← c.stamp_of.ensures)
+
+pub returns-else-flag_of : goal.returns-else-flag_of
+unfolding heartbeat_of
+returns-else-flag_of c = rw (← c.flag_of.ensures, c.if-flag_of.false)
