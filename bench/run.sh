@@ -9,9 +9,9 @@ build=$top/build/bench
 mkdir -p "$build"
 
 for library in failsafe frames_c; do
-    rt staticlib $library >"$build/staticlib.out" 2>&1 || { cat "$build/staticlib.out" && exit 1; }
+    tools/make.sh $library >"$build/staticlib.out" 2>&1 || { cat "$build/staticlib.out" && exit 1; }
 done
-rt check decide >"$build/check.out" 2>&1 || { cat "$build/check.out" && exit 1; }
+tools/make.sh decide >"$build/check.out" 2>&1 || { cat "$build/check.out" && exit 1; }
 CUTHRANSI_STATICLIB=$top/target/staticlib
 export CUTHRANSI_STATICLIB
 "$(oracle/run.sh --path streams)" --write "$build/stream" 200000

@@ -1,6 +1,6 @@
 /* The flight supervisor's entries, for an autopilot's host in C.
  *
- * Link target/staticlib/libfailsafe.a (made by `rt staticlib failsafe`). The library keeps nothing between
+ * Link target/staticlib/libfailsafe.a (made by `tools/make.sh failsafe`). The library keeps nothing between
  * calls, allocates nothing and calls nothing back: all state is in the buffer that the host keeps.
  * examples/host.c is a host that flies a short flight. docs/RULES.md has the rules in the order of a step.
  *

@@ -40,7 +40,7 @@ kept_list() { # PROGRAM LIST [ARGUMENT ..]
 
 # Proves and writes the static library, for a test or the oracle to link; the gate does so once, before its tests.
 staticlib() {
-    if [ -z "${CUTHRANSI_LIBRARY_MADE:-}" ] && ! rt staticlib failsafe >"$build/staticlib.out" 2>&1; then
+    if [ -z "${CUTHRANSI_LIBRARY_MADE:-}" ] && ! "$top/tools/make.sh" failsafe >"$build/staticlib.out" 2>&1; then
         cat "$build/staticlib.out"
         exit 1
     fi

@@ -19,10 +19,10 @@ need rt "it is the command of the Rattle kit, which proves and builds"
 echo "Now decide is proved and built, a line for each crate. From nothing it takes some minutes."
 began=$SECONDS
 if [ -z "${TMPDIR:-}" ] && [ -w /dev/shm ] && [ "$(df --output=avail /dev/shm | tail -n 1)" -gt 4000000 ]; then
-    export TMPDIR=/dev/shm # the prover's temporary files: quicker in memory
+    export TMPDIR=/dev/shm # the prover's temporary files, in memory
 fi
 mkdir -p build
-if ! rt check decide 2>&1 | tee build/first.log | { grep --line-buffered '^rt: ' || true; }; then
+if ! tools/make.sh decide 2>&1 | tee build/first.log | { grep --line-buffered -E '^(rt: |library |crate )' || true; }; then
     echo "first.sh: something is not proved: build/first.log says what" >&2
     exit 1
 fi

@@ -16,7 +16,7 @@ if ! grep -q '^decide:' crates.txt; then
 fi
 rust=$(oracle/run.sh --path decide 2>"$build/said") && streams=$(oracle/run.sh --path streams 2>"$build/said")
 need $? "$build/said"
-if ! rt check decide >"$build/check.out" 2>&1; then
+if ! tools/make.sh decide >"$build/check.out" 2>&1; then
     cat "$build/check.out"
     exit 1
 fi

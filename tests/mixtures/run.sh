@@ -11,7 +11,7 @@ oracle/run.sh mixtures >"$build/rust" 2>"$build/said"
 need $? "$build/said"
 oracle/run.sh mixtures expected >"$build/expected" 2>"$build/said"
 need $? "$build/said"
-if ! rt check mixtures >"$build/check.out" 2>&1; then
+if ! tools/make.sh mixtures >"$build/check.out" 2>&1; then
     cat "$build/check.out"
     exit 1
 fi

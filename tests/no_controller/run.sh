@@ -25,7 +25,7 @@ done
 echo "flights under rc_required true differ ($(sed -nE 's/.*; ([0-9]+ outputs) differ$/\1/p' "$build/required")), and so do those with calls declined in one alone ($(sed -nE 's/.*; ([0-9]+ outputs) differ$/\1/p' "$build/apart"))"
 
 # The same through `decide`, which ends at the first frame that is declined: without such calls.
-if ! rt check decide >"$build/check.out" 2>&1; then
+if ! tools/make.sh decide >"$build/check.out" 2>&1; then
     cat "$build/check.out"
     exit 1
 fi

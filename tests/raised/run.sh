@@ -16,7 +16,7 @@ same_streams() {
     local rust stream name others=0
     rust=$(oracle/run.sh --path decide_raised 2>"$build/said")
     need $? "$build/said"
-    if ! rt check decide >"$build/check.out" 2>&1; then
+    if ! tools/make.sh decide >"$build/check.out" 2>&1; then
         cat "$build/check.out"
         exit 1
     fi

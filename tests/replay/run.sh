@@ -7,11 +7,11 @@ cd "$top" || exit 1
 build=$top/build/replay
 mkdir -p "$build"
 
-# The libraries of what the entries do not hand out; each is proved on the way. One after the other: rt is not made for two at once.
+# The libraries of what the entries do not hand out; each is proved on the way.
 side_libraries() {
     local name
     for name in leaves_c frames_c float32_c; do
-        rt staticlib "$name" >"$build/$name.out" 2>&1 || { cat "$build/$name.out" && exit 1; }
+        tools/make.sh "$name" >"$build/$name.out" 2>&1 || { cat "$build/$name.out" && exit 1; }
     done
 }
 
@@ -49,7 +49,7 @@ notices() { # LIST ROWS
 
 staticlib
 side_libraries
-if ! rt check decide >"$build/check.out" 2>&1; then
+if ! tools/make.sh decide >"$build/check.out" 2>&1; then
     cat "$build/check.out"
     exit 1
 fi

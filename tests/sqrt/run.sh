@@ -11,7 +11,7 @@ build=$top/build/sqrt
 mkdir -p "$build"
 need_gcc
 
-if ! rt staticlib float32_c >"$build/staticlib.out" 2>&1; then
+if ! tools/make.sh float32_c >"$build/staticlib.out" 2>&1; then
     cat "$build/staticlib.out"
     exit 1
 fi

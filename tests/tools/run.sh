@@ -434,7 +434,7 @@ crane() { # DECIDE
     "$1" <"$build/crane.frames" | tools/frames.py show --input samples/crane.json | diff - samples/crane.txt || fail "$1 makes other Decisions of the crane"
 }
 if grep -q '^decide:' crates.txt; then
-    rt check decide >"$build/check.out" 2>&1 || { cat "$build/check.out" && exit 1; }
+    tools/make.sh decide >"$build/check.out" 2>&1 || { cat "$build/check.out" && exit 1; }
     target/bin/decide <samples/flight.frames | cmp - samples/decisions.frames || fail "decide makes other Decisions of the sample"
     crane target/bin/decide
     tools/first.sh >"$build/first" || fail "tools/first.sh fails"

@@ -16,7 +16,7 @@ fail() {
 }
 
 need_gcc
-if ! rt check trials decide >"$build/check.out" 2>&1; then
+if ! tools/make.sh trials decide >"$build/check.out" 2>&1; then
     cat "$build/check.out"
     exit 1
 fi

@@ -15,7 +15,7 @@ mkdir -p "$build"
 # `decide` starts with a state of kind 5 or 12: telemetry of kind 9 is never due there, nor is a state of kind 10.
 decide_declines() {
     local kind
-    if ! rt check decide >"$build/check.out" 2>&1; then
+    if ! tools/make.sh decide >"$build/check.out" 2>&1; then
         cat "$build/check.out"
         exit 1
     fi

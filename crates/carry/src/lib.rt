@@ -1,6 +1,7 @@
 // A running 32-bit state carried over to the clock of 64 bits: what turns it away, and its instants (specs/Carry.antt). `t` is the
 // last sound reading in 64 bits, and `last` in 32.
 #![tactic(auto)]
+
 ghost use Rattle.std.specs.Prelude.{◌≡◌, ◌-◌, ◌<◌, if◌then◌else◌};
 ghost use Rattle.time.specs.Time.{wrapping, wrapping_sub, age, at_most};
 ghost use Rattle.triggers.specs.Update.{none_raised};

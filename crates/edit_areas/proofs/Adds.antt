@@ -8,7 +8,7 @@ use lib.Dec.{eqb}
 use lib.ListN.{length, take, drop, length-append, length-drop}
 use Rattle.wire.specs.Fields.{u8_at}
 use Rattle.wire.specs.Frame.{room_fault, frame_written}
-use Rattle.areas.specs.Held.{held, first, holds, place, area_fault, taken, answer, add}
+use Rattle.areas.specs.Held.{first, holds, place, area_fault, taken, answer, add}
 use Rattle.areas.specs.Calls.{code, kept}
 use Rattle.areas.proofs.Lists.{or_false, place_length}
 use Rattle.areas.proofs.Good.{clear}
@@ -30,7 +30,7 @@ module _ (s area output : List ℕ) where
   abbrev a : Sent
   a = area_in area
 
-  abbrev judged : ℕ
+  abbrev pub judged : ℕ
   judged = area_fault area_rules (taken l a.number) (length l) a
 
   pub add_declined : (f : ℕ) → f ≡ first (areas_fault s) (area_frame_fault area) → (f ≡ 0 → ⊥) → (f ≡ (add_call s area output).number) × (output ≡ (add_call s area output).output)

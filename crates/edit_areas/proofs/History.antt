@@ -22,7 +22,7 @@ use Rattle.frame_areas.specs.AreasFrame.{bodies, held_in, areas_fault, bodies_of
 use Rattle.frame_areas.proofs.Frames.{Accepted, accepted, accepted_small, accepted_frame, accepted_place, accepted_without, areas_back, areas_length, area_sent}
 use Rattle.edit_areas.specs.Edit.{edited, add_call, remove_call}
 use Rattle.edit_areas.proofs.Answers.{first_zero, held_as}
-use Rattle.edit_areas.specs.History.{Edit, adds_area, removes_area, on, call_of, frame_after, answers, Present, accepted_calls, frame_of, EditsClaim}
+use Rattle.edit_areas.specs.History.{Edit, adds_area, removes_area, on, call_of, frame_after, answers, accepted_calls, frame_of, EditsClaim}
 
 -- ---- the frame written, cut out of the output
 field : (l : List Sent) (r : List ℕ) → 3 + length (bodies_of l) < 2 ^ 16 → u16_at (areas_frame l ++ r) 0 ≡ 3 + length (bodies_of l)

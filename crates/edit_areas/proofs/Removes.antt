@@ -7,7 +7,7 @@ use mathlib.Core.List.{List, [], ◌++◌}
 use lib.ListN.{length, take, drop, length-append}
 use Rattle.wire.specs.Fields.{u8_at}
 use Rattle.wire.specs.Frame.{room_fault, frame_written}
-use Rattle.areas.specs.Held.{held, first, holds, without, remove}
+use Rattle.areas.specs.Held.{first, holds, without, remove}
 use Rattle.areas.specs.Calls.{code, kept}
 use Rattle.frame_areas.specs.AreaFrame.{body_size}
 use Rattle.frame_areas.specs.AreasFrame.{held_in, areas_fault, bodies_of, areas_frame}

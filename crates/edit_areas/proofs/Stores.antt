@@ -11,7 +11,7 @@ use Rattle.wire.proofs.Stores.{sets_append}
 use Rattle.edit_areas.specs.Cut.{framed}
 use Rattle.edit_areas.proofs.Parts.{rest}
 
--- what `bytes::copy` leaves in the bytes from `at` on, in its place
+-- what `slices::copy` leaves in the bytes from `at` on, in its place
 pub part_stored : {n : ℕ} {ys : List ℕ} (s part : List ℕ) (at : ℕ) → at + length part ≤ length s → n ≡ length part → ys ≡ take n part ++ drop n (take (length s - at) (drop at s))
     → take at s ++ (ys ++ drop (length s - at) (drop at s)) ≡ sets s at part
 part_stored {n} {ys} s part at h e k =

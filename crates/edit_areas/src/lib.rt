@@ -1,5 +1,6 @@
 // Adding a keep-out area to those held, and removing one: from slice to slice, body by body as sent.
 #![tactic(auto)]
+
 ghost use Rattle.std.specs.Prelude.{◌≡◌, true, ◌||◌, ◌++◌, ◌+◌, ◌<◌, ◌≤◌, eqb, length, drop};
 ghost use Rattle.std.proofs.lemmas.List.Edits.{sets};
 ghost use Rattle.wire.specs.Fields.{u8_at};
@@ -57,7 +58,7 @@ fn put_part(s: &mut [u8], at: usize, part: &[u8])
     requires { at + length part.now ≤ length s.old }
     ensures { s.new ≡ sets s.old at part.now }
 {
-    bytes::copy(part, &mut s[at..]);
+    slices::copy(part, &mut s[at..]);
 }
 
 // The frame of a kind whose body is one byte, a count or a number, and three parts; 5 with nothing written where it has no room.

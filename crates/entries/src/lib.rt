@@ -357,7 +357,7 @@ fn old_fault(old: &[u8]) -> u32
         return fault as u32;
     }
     let mut low = [0u8; 186];
-    bytes::copy(old, &mut low);
+    slices::copy(old, &mut low);
     let none = [0u8; 0];
     let flight = flight::refused_flight(0);
     state_fault(flight, &none, &mut low)

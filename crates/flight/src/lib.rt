@@ -1,5 +1,6 @@
 // Configuration and fence of a flight: read, and accepted or refused, in document 01's order.
 #![tactic(auto)]
+
 ghost use Rattle.std.specs.Prelude.{◌≡◌};
 ghost use Rattle.config.specs.Config.{home};
 ghost use Rattle.geometry.specs.Distance.{ring_of, side_lengths, nearest_by};

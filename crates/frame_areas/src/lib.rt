@@ -1,6 +1,7 @@
 // Kinds 7 and 13: keep-out areas in their frames, judged, and the clearance from them. Areas stay bytes: there is no slice of structs,
 // and the host holds bytes anyway.
 #![tactic(auto)]
+
 ghost use Rattle.std.specs.Prelude.{true, ◌≡◌, length, drop};
 ghost use Rattle.std.specs.Float.Ieee.{lt, le, neg};
 ghost use Rattle.float32.specs.Binary32.{zero_f};

@@ -82,7 +82,7 @@ taken_out s z x n e =
     ∙ ap (λ (y : List ℕ). (h ++ drop 4 t) ++ y) (sym e)
     ∙ append_assoc h (drop 4 t) (drop 95 s)
 
--- what `bytes::copy` leaves of them in an array of zeros
+-- what `slices::copy` leaves of them in an array of zeros
 pub copied : {n : ℕ} {p : List ℕ} (s : List ℕ) → n ≡ length p → p ≡ take 94 s → length s ≡ 96 → take n p ++ drop n (replicate 95 0) ≡ take 94 s ++ 0 ∷ []
 copied {n} {p} s e k h =
     let l : length p ≡ 94 = ap length k ∙ length-take-le 94 s (omega arith) in

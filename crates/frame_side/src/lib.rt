@@ -1,5 +1,6 @@
 // Kind 6: a Decision with the side of the fence that gave its distance, in a frame of 96 bytes. It is kind 4's frame with one byte put in.
 #![tactic(auto)]
+
 ghost use Rattle.std.specs.Prelude.{◌≡◌, length};
 ghost use Rattle.std.proofs.lemmas.List.Edits.{sets};
 ghost use Rattle.wire.specs.Fields.{le8, le_flag};
@@ -45,7 +46,7 @@ fn without_side(s: &[u8]) -> [u8; 95]
     ensures { result ≡ without_side s.now }
 {
     let mut b = [0u8; 95];
-    bytes::copy(&s[0..94], &mut b);
+    slices::copy(&s[0..94], &mut b);
     wire::put_head(&mut b, 4, 93);
     wire::put_u8(&mut b, 94, s[95]);
     b

@@ -1,6 +1,7 @@
 // Kind 5: the supervisor's state, without configuration and fence, in its frame of 186 bytes, read and written. Kind 12, of a flight
 // that keeps raised requests, has eight bytes more: `keeps` says which it is.
 #![tactic(auto)]
+
 ghost use Rattle.std.specs.Prelude.{◌≡◌, ◌+◌, ◌<◌, ◌≤◌, eqb, length};
 ghost use Rattle.std.proofs.lemmas.List.Edits.{sets};
 ghost use Rattle.supervisor.specs.Rules.{finite_vec, finite_stored};

@@ -16,7 +16,7 @@ use Rattle.frame_wide.proofs.Eight.{bytes_long, number_drop}
 pub rest : (s : List ℕ) (at : ℕ) → take (length s - at) (drop at s) ≡ drop at s
 rest s at = take_all (length s - at) (drop at s) (omega (arith, length-drop at s))
 
--- what `bytes::copy` leaves in the bytes from `at` on, in its place
+-- what `slices::copy` leaves in the bytes from `at` on, in its place
 pub part_stored : {n : ℕ} {ys : List ℕ} (s part : List ℕ) (at : ℕ) → at + length part ≤ length s → n ≡ length part → ys ≡ take n part ++ drop n (take (length s - at) (drop at s))
     → take at s ++ (ys ++ drop (length s - at) (drop at s)) ≡ sets s at part
 part_stored {n} {ys} s part at h e k =

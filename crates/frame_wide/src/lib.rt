@@ -144,7 +144,7 @@ fn put_part(s: &mut [u8], at: usize, part: &[u8])
         s[at] = part[0];
         return;
     }
-    bytes::copy(part, &mut s[at..]);
+    slices::copy(part, &mut s[at..]);
 }
 
 // The first n bytes of s and the instant behind them, in eight bytes.

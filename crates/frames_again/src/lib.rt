@@ -1,5 +1,6 @@
 // The frames of what a step leaves, written and read again: the very state, and the very Decision.
 #![tactic(auto)]
+
 ghost use Rattle.std.specs.Prelude.{true, false, ◌≡◌};
 ghost use Rattle.supervisor.specs.Rules.{Rules, RaisedFits};
 ghost use Rattle.supervisor.specs.Settings.{base_settings, fence_site, fed_at};
@@ -16,8 +17,8 @@ use types::{Decision, Telemetry};
 
 // Any state's frame of kind 5 as the reader answers it: the very state, where it obeys the frame's rules and nothing is raised.
 pub fn state_again(x: Supervisor) -> StateRead
-    ensures value { Rules x → RaisedFits false x → result ≡ StateRead.Frame x }
-    ensures value_2 { result ≡ read_state false (state_frame false x) }
+    ensures accepted_again { Rules x → RaisedFits false x → result ≡ StateRead.Frame x }
+    ensures read_again { result ≡ read_state false (state_frame false x) }
 {
     let mut b = [0u8; 186];
     frame_state::write_state(&mut b, false, x);
@@ -26,8 +27,8 @@ pub fn state_again(x: Supervisor) -> StateRead
 
 // The same for kind 12, which holds what is raised.
 pub fn raised_state_again(x: Supervisor) -> StateRead
-    ensures value { Rules x → result ≡ StateRead.Frame x }
-    ensures value_2 { result ≡ read_state true (state_frame true x) }
+    ensures accepted_again { Rules x → result ≡ StateRead.Frame x }
+    ensures read_again { result ≡ read_state true (state_frame true x) }
 {
     let mut b = [0u8; 194];
     frame_state::write_state(&mut b, true, x);
@@ -46,8 +47,8 @@ pub fn decision_again(d: Decision) -> DecisionRead
 // The state after a step under a configuration of kind 1, by a kind 5: the very state, where the step began from one that obeys the rules
 // and had nothing raised.
 pub fn stepped_state_again(x: Supervisor, cfg: Config, fence: Geofence, raw: Telemetry) -> StateRead
-    ensures value { cfg.keeps_raised ≡ false → Rules x → RaisedFits false x → result ≡ StateRead.Frame (step (base_settings cfg) x (fed_at (fence_site fence) raw)).supervisor }
-    ensures value_2 { result ≡ read_state false (state_frame false (step (base_settings cfg) x (fed_at (fence_site fence) raw)).supervisor) }
+    ensures accepted_again { cfg.keeps_raised ≡ false → Rules x → RaisedFits false x → result ≡ StateRead.Frame (step (base_settings cfg) x (fed_at (fence_site fence) raw)).supervisor }
+    ensures read_again { result ≡ read_state false (state_frame false (step (base_settings cfg) x (fed_at (fence_site fence) raw)).supervisor) }
 {
     let y = x.step(cfg, fence, raw);
     let s = y.supervisor;
@@ -63,8 +64,8 @@ pub fn stepped_raised_state_again(
     fence: Geofence,
     raw: Telemetry,
 ) -> StateRead
-    ensures value { Rules x → result ≡ StateRead.Frame (step (base_settings cfg) x (fed_at (fence_site fence) raw)).supervisor }
-    ensures value_2 { result ≡ read_state true (state_frame true (step (base_settings cfg) x (fed_at (fence_site fence) raw)).supervisor) }
+    ensures accepted_again { Rules x → result ≡ StateRead.Frame (step (base_settings cfg) x (fed_at (fence_site fence) raw)).supervisor }
+    ensures read_again { result ≡ read_state true (state_frame true (step (base_settings cfg) x (fed_at (fence_site fence) raw)).supervisor) }
 {
     let y = x.step(cfg, fence, raw);
     let s = y.supervisor;

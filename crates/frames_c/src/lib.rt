@@ -1,5 +1,6 @@
 // A frame read and its value written anew, for C, to test and to time the frames.
 #![tactic(auto)]
+
 ghost use Rattle.std.specs.Prelude.{false, ◌≡◌};
 ghost use Rattle.frame_config.specs.ConfigFrame.{read_config};
 ghost use Rattle.frame_decision.specs.DecisionFrame.{read_decision};

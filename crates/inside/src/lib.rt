@@ -1,5 +1,6 @@
 // Document 02, L9: an inside test that stops at the first side with a negative distance, for one point and for a row of them.
 #![tactic(auto)]
+
 ghost use Rattle.std.specs.Prelude.{◌≡◌, ◌+◌, ◌*◌, ◌/◌, ◌%◌, ◌≤◌, ◌<◌, length};
 ghost use Rattle.std.proofs.lemmas.List.Edits.{sets};
 ghost use Rattle.geometry.specs.Distance.{ring_of};

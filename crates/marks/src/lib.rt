@@ -1,5 +1,6 @@
 // Instants and durations of 32 bits that mark how each test of the 64-bit clock came out (specs/Marks.antt).
 #![tactic(auto)]
+
 ghost use Rattle.std.specs.Prelude.{◌≡◌, cond, min, leb, ltb};
 ghost use Rattle.types.specs.declared.OptionU32.{OptionU32};
 ghost use Rattle.time.specs.Time.{plain, age, fresh, hold_met};

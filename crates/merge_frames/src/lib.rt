@@ -1,5 +1,6 @@
 // The kind 3 frames of two radios merged into one, under a flight's configuration and fence.
 #![tactic(auto)]
+
 ghost use Rattle.std.specs.Prelude.{◌≡◌};
 ghost use Rattle.frame_telemetry.specs.TelemetryFrame.{read_telemetry};
 ghost use Rattle.merge_frames.specs.Call.{merge_read, after_second, after_first, merge_checked};

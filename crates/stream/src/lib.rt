@@ -319,7 +319,7 @@ fn hold_areas(
         return FrameAnswer {
             due: Due::AfterAreas,
             supervisor: s,
-            areas: bytes::copy(frame, held),
+            areas: slices::copy(frame, held),
             put: 0,
         };
     }

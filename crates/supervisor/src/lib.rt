@@ -1,5 +1,6 @@
 // The Rust's lib.rs: one step of the supervisor. Configuration and fence come with each call.
 #![tactic(auto)]
+
 ghost use Rattle.std.specs.Prelude.{◌≡◌};
 ghost use Rattle.geometry.specs.Distance.{ring_of, nearest_by};
 ghost use Rattle.frame_areas.specs.AreasFrame.{clearance_at};

@@ -1,5 +1,6 @@
 // Document 02, L6: a test load that everyone can make. Telemetry frames from a seed, one a call.
 #![tactic(auto)]
+
 ghost use Rattle.std.specs.Prelude.{◌≡◌, ◌+◌, ◌*◌, ◌≤◌, ◌++◌, length, take, drop};
 ghost use Rattle.std.proofs.lemmas.List.Edits.{sets};
 ghost use Rattle.trial.specs.Draws.{next, draws_of, stamp_of, flag_of, fix_of, landed_of, byte_of, float_of};

@@ -2,11 +2,11 @@
 // number below 2^32, or is missing, or there are more than two, it says so on standard error and writes no frame. The work is in the
 // crate `trial`; what is proved here is that the functions are safe and end.
 #![tactic(auto)]
+
 ghost use Rattle.std.specs.Prelude.{min, ◌≡◌};
 
 use std::env;
 use std::io::{Eprint, Print};
-
 use types::OptionU32;
 
 // The frames that a block has room for, of 106 bytes each.
@@ -48,7 +48,9 @@ fn write_frames<P: Print>(rt: &P, seed: u32, count: u32) {
 }
 
 fn complain<P: Eprint>(rt: &P) {
-    let _told = eprintln!(rt; "usage: trials SEED COUNT, two decimal numbers from 0 to 4294967295").is_ok();
+    let _told = eprintln!(rt;
+        "usage: trials SEED COUNT, two decimal numbers from 0 to 4294967295"
+    ).is_ok();
 }
 
 fn main(rt: HostRuntime) {

@@ -1,5 +1,4 @@
 -- `frame_areas::area_distance` meets its contract. Assumes nothing.
-use borrow.Author.Rules.{rules}
 use Rattle.frame_areas.specs.AreaFrame.{distance_at}
 use Rattle.frame_areas.proofs.Bodies.{sent_back}
 use Rattle.frame_areas.proofs.area_distance.Goals as goal

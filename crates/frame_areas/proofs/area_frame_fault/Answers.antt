@@ -2,7 +2,6 @@
 use Prim.Native.Nat.{ℕ}
 use mathlib.Core.Path.{◌∙◌, ap}
 use native.Mathlib.Omega.{arith}
-use borrow.Author.Rules.{rules}
 use Rattle.wire.specs.Frame.{frame_fault}
 use Rattle.frame_areas.specs.AreaFrame.{area_frame_fault}
 use Rattle.frame_areas.proofs.Bodies.{byte_behind}

@@ -2,7 +2,6 @@
 use lib.ListN.{length}
 use mathlib.Core.Path.{◌≡◌, ◌∙◌, sym}
 use borrow.Author.Tests.{eq-eqb, ne_eqb}
-use borrow.Author.Rules.{rules}
 use Rattle.wire.specs.Fields.{u16_at}
 use Rattle.wire.specs.Frame.{frame_fault}
 use Rattle.frame_areas.specs.AreasFrame.{areas_frame_fault, areas_fault}

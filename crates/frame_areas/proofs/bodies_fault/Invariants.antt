@@ -1,16 +1,12 @@
 use lib.ListN.{length, drop}
-use Prim.Native.Nat.{ℕ, ◌-◌, ◌≤◌}
-use mathlib.Core.Path.{◌≡◌, ◌∙◌, sym}
+use Prim.Native.Nat.{◌-◌, ◌≤◌}
+use mathlib.Core.Path.{◌≡◌}
 use mathlib.Core.Bool.{true}
-use mathlib.Core.List.{List, []}
-use native.Mathlib.Omega.{arith}
-use borrow.Author.Rules.{rules}
-use Rattle.wire.specs.Fields.{u8_at}
 use Rattle.areas.specs.Held.{read}
 use Rattle.areas.specs.Calls.{code}
 use Rattle.frame_areas.specs.AreaFrame.{area_rules}
-use Rattle.frame_areas.specs.AreasFrame.{bodies, bodies_fit, counts_fit, held_in}
-use Rattle.frame_areas.proofs.Bodies.{counted, part_whole, bodies_end, fit_enough, fault_from, one_by_one, turn_ends, turn_goes}
+use Rattle.frame_areas.specs.AreasFrame.{bodies, bodies_fit, held_in}
+use Rattle.frame_areas.proofs.Bodies.{fault_from}
 use Rattle.frame_areas.proofs.bodies_fault.Given as goal
 
 abbrev pub invariant-loop-n : goal.invariant-loop-n

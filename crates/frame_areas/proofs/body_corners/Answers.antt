@@ -1,5 +1,4 @@
 -- `frame_areas::body_corners` meets its contract. Assumes nothing.
-use borrow.Author.Rules.{rules}
 use Rattle.frame_areas.proofs.Bodies.{sent_at}
 use Rattle.frame_areas.proofs.body_corners.Goals as goal
 

@@ -6,7 +6,6 @@ use lib.Ieee.{lt}
 use lib.Dec.{ltb}
 use native.Mathlib.Omega.{arith}
 use borrow.Author.Tests.{le-ltb, lt-ltb}
-use borrow.Author.Rules.{rules}
 use Rattle.float32.specs.Binary32.{zero_f}
 use Rattle.wire.specs.Fields.{u8_at}
 use Rattle.geometry.specs.declared.PolygonResult.{PolygonResult}

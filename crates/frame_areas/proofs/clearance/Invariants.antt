@@ -1,12 +1,9 @@
 use Prim.Native.Nat.{◌≤◌, ◌<◌}
 use mathlib.Core.Path.{◌≡◌}
-use native.Mathlib.Omega.{arith}
 use lib.ListN.{length, drop}
-use borrow.Author.Rules.{rules}
 use Rattle.areas.specs.Clearance.{clearance}
 use Rattle.frame_areas.specs.AreaFrame.{distance_at}
-use Rattle.frame_areas.specs.AreasFrame.{bodies, held_in, clearance_at}
-use Rattle.frame_areas.proofs.Bodies.{within, part_whole, bodies_end, bodies_stop, bodies_go}
+use Rattle.frame_areas.specs.AreasFrame.{bodies, clearance_at}
 use Rattle.frame_areas.proofs.clearance.Given as goal
 
 abbrev pub invariant-loop-left : goal.invariant-loop-left

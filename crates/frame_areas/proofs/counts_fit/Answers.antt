@@ -6,9 +6,8 @@ use mathlib.Core.List.{List}
 use lib.Dec.{eqb}
 use native.Mathlib.Omega.{arith}
 use lib.ListN.{length, drop, length-drop}
-use borrow.Author.Rules.{rules}
 use borrow.Author.Tests.{le-ltb, lt-ltb, eq-eqb, ne_eqb, eqb-true, eqb-false}
-use Rattle.frame_areas.specs.AreasFrame.{bodies_fit, counts_fit}
+use Rattle.frame_areas.specs.AreasFrame.{counts_fit}
 use Rattle.frame_areas.proofs.Bodies.{fit_end, fit_stops, fit_goes}
 use Rattle.frame_areas.proofs.counts_fit.Goals as goal
 

@@ -1,14 +1,13 @@
 -- `frame_areas::home_inside` meets its contract. Assumes nothing.
 use mathlib.Core.Path.{◌≡◌, ◌∙◌, refl, sym, ap}
 use mathlib.Core.Bool.{Bool, not}
-use Prim.Native.Nat.{◌+◌, ◌<◌, ◌≤◌, ◌-◌}
+use Prim.Native.Nat.{◌+◌, ◌<◌, ◌≤◌}
 use native.Mathlib.Nat.{mod-eq_of_lt}
 use native.Mathlib.Omega.{arith}
 use lib.Ieee.{le}
-use lib.ListN.{length, get_or, take, drop, length-map}
-use borrow.Author.Rules.{rules}
+use lib.ListN.{length, take, drop}
 use Rattle.float32.specs.Binary32.{zero_f}
-use Rattle.corners.specs.Ring.{any_meets, sides}
+use Rattle.corners.specs.Ring.{sides}
 use Rattle.corners.proofs.Laws.{side_at, side_end, next_last}
 use Rattle.corners.proofs.Places.{nowhere, take-capped, length-capped}
 use Rattle.types.specs.declared.Point2.{Point2}

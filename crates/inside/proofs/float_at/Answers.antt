@@ -1,7 +1,6 @@
 -- `inside::float_at` meets its contract. Assumes nothing.
 use lib.Ieee.{binary32, of_bits}
 use mathlib.Core.Path.{◌∙◌, ap, sym}
-use borrow.Author.Rules.{rules}
 use Rattle.wire.specs.Fields.{u8_at, f32_at}
 use Rattle.wire.proofs.Number.{u32_is}
 use Rattle.inside.proofs.float_at.Goals as goal

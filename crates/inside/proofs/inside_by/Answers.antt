@@ -1,7 +1,6 @@
 -- `inside::inside_by` meets its contract. Assumes nothing.
 use borrow.Author.Tests.{lt-ltb, le-ltb}
 use Rattle.inside.specs.Inside.{inside_by}
-use borrow.Author.Rules.{rules}
 use Rattle.inside.proofs.inside_by.Goals as goal
 
 pub returns-then-n-lt3 : goal.returns-then-n-lt3

@@ -3,9 +3,8 @@ use Prim.Native.Nat.{ℕ, ◌/◌}
 use mathlib.Core.List.{◌++◌}
 use mathlib.Core.Path.{◌≡◌, ◌∙◌, ap, refl, sym}
 use native.Mathlib.Omega.{arith}
-use lib.ListN.{length, drop, length-map}
+use lib.ListN.{length, drop}
 use lib.Seq.{sets}
-use borrow.Author.Rules.{rules}
 use borrow.Author.Tests.{eq-eqb, ne_eqb, lt-ltb, le-ltb}
 use Rattle.wire.proofs.Stores.{stored}
 use Rattle.corners.proofs.Places.{length-capped}
@@ -23,11 +22,11 @@ long c = c.well_formed.0.1.1.0.1.0.1
 
 pub returns-then-points-ne0 : goal.returns-then-points-ne0
 unfolding judged
-returns-then-points-ne0 c = rw (ne_eqb _ 0 c.if-points-ne0.true) (refl, refl)
+returns-then-points-ne0 c = rw (ne_eqb _ 0 c.if-points-ne0.true) (record { value = refl; output_after = refl })
 
 pub returns-then-output-n : goal.returns-then-output-n
 unfolding judged
-returns-then-output-n c = rw (eq-eqb _ 0 c.if-points-ne0.false, lt-ltb _ _ c.if-output-n.true) (refl, refl)
+returns-then-output-n c = rw (eq-eqb _ 0 c.if-points-ne0.false, lt-ltb _ _ c.if-output-n.true) (record { value = refl; output_after = refl })
 
 pub put_answers-requires : goal.put_answers-requires
 put_answers-requires c =
@@ -44,8 +43,8 @@ returns c =
     let o = a.output.now in
     let n = length points / 8 in
     let room = c.if-output-n.false in
-    let m = c.capped-m.ensures ∙ sym (length-capped a.poly.verts a.poly.len (long c.before.before.before.before.before.before.before.before.before.before.before.before.before)) in
+    let m = c.capped-m.ensures ∙ sym (length-capped a.poly.verts a.poly.len (long (goal.at.returns c).Start)) in
     let f = by_own l _ _ _ c.numbers_of-s.ensures m c.sides_long-long.ensures in
     let two = two_each (inside l) points n in
     rw (eq-eqb _ 0 c.if-points-ne0.false, le-ltb _ _ room)
-    (refl, c.put_answers.ensures ∙ (λ i. sets o 0 (answers (f i) points n)) ∙ stored o (answers (inside l) points n) (omega arith) ∙ ap (λ (k : ℕ). answers (inside l) points n ++ drop k o) two)
+    (record { value = refl; output_after = c.put_answers.ensures ∙ (λ i. sets o 0 (answers (f i) points n)) ∙ stored o (answers (inside l) points n) (omega arith) ∙ ap (λ (k : ℕ). answers (inside l) points n ++ drop k o) two })

@@ -1,6 +1,5 @@
 -- `inside::negative_at` meets its contract. Assumes nothing.
 use mathlib.Core.Path.{refl}
-use borrow.Author.Rules.{rules}
 use Rattle.inside.specs.Inside.{negative_at}
 use Rattle.inside.proofs.negative_at.Goals as goal
 

@@ -1,13 +1,11 @@
 -- `inside::numbers_of` meets its contract. Assumes nothing.
-use mathlib.Core.Path.{◌≡◌, ◌∙◌, refl, sym, ap}
-use mathlib.Core.List.{List, ◌++◌}
-use Prim.Native.Nat.{ℕ, ◌+◌, ◌*◌, ◌-◌, ◌%◌, ◌<◌, ◌≤◌, min}
-use native.Mathlib.Nat.{mod-lt}
+use mathlib.Core.Path.{◌≡◌, ◌∙◌, sym, ap}
+use mathlib.Core.List.{List}
+use Prim.Native.Nat.{ℕ, ◌*◌, ◌≤◌, min}
 use native.Mathlib.Omega.{arith}
 use lib.Ieee.{nan}
-use lib.ListN.{length, get_or, take, replicate, length-map}
+use lib.ListN.{length, get_or, take}
 use lib.Seq.{sets, length-take-le}
-use borrow.Author.Rules.{rules}
 use Rattle.float32.specs.Binary32.{zero_f}
 use Rattle.types.specs.declared.Point2.{Point2}
 use Rattle.corners.specs.Ring.{sides}
@@ -15,7 +13,7 @@ use Rattle.corners.proofs.Laws.{side_is, side_count}
 use Rattle.corners.proofs.Places.{nowhere, take-capped}
 use Rattle.geometry.specs.declared.SideLengths.{SideLengths}
 use Rattle.geometry.specs.Distance.{ring_of, side_length}
-use Rattle.inside.specs.Inside.{side_numbers, numbers, ring_numbers}
+use Rattle.inside.specs.Inside.{side_numbers, ring_numbers}
 use Rattle.inside.proofs.Numbers.{stored_side, all_stored, length_at}
 use Rattle.inside.proofs.numbers_of.Goals as goal
 use Rattle.inside.proofs.numbers_of.Goals.{Start}
@@ -33,10 +31,10 @@ loop-i-preserved c =
     let n = c.capped-n.result in
     let i = c.loop-i.i in
     let ss = sides (take n p.verts) in
-    let r : n ≤ length p.verts = omega (arith, long c.before.before.before.before.before.before.before.before.before) in
+    let r : n ≤ length p.verts = omega (arith, long (goal.at.loop-i-preserved c).Start) in
     let e = side_count p.verts n r in
     let side = side_is p.verts n r i nowhere (omega arith) in
-    let g = ring c.before.before.before.before.before.before.before.before.before n c.capped-n.ensures in
+    let g = ring (goal.at.loop-i-preserved c).Start n c.capped-n.ensures in
     let k : length (ring_of p) ≡ n = ap length g ∙ length-take-le n p.verts r in
     let len =
     ap (λ (m : SideLengths). get_or m.m i nan) c.side_lengths-lengths.ensures
@@ -49,7 +47,7 @@ pub returns : goal.returns
 returns c =
     let p = c.args.poly in
     let n = c.capped-n.result in
-    let r : n ≤ length p.verts = omega (arith, long c.before.before.before.before) in
-    let g = ring c.before.before.before.before n c.capped-n.ensures in
+    let r : n ≤ length p.verts = omega (arith, long (goal.at.returns c).Start) in
+    let g = ring (goal.at.returns c).Start n c.capped-n.ensures in
     let k : c.loop-i.i ≡ length (take n p.verts) = omega (arith, length-take-le n p.verts r) in
     c.loop-i.invariant.1 ∙ all_stored (take n p.verts) c.loop-i.i k ∙ ap ring_numbers (sym g)

@@ -1,6 +1,5 @@
 -- `inside::point_at` meets its contract. Assumes nothing.
 use Rattle.frame_fence.specs.FenceFrame.{point_at}
-use borrow.Author.Rules.{rules}
 use Rattle.inside.proofs.point_at.Goals as goal
 
 pub returns : goal.returns

@@ -4,11 +4,9 @@ use mathlib.Core.Bool.{Bool, true, false, cond}
 use mathlib.Core.List.{[], ◌∷◌}
 use mathlib.Core.Path.{◌≡◌, ◌∙◌, ap, refl}
 use native.Mathlib.Numerals.{add-one}
-use native.Mathlib.Omega.{arith}
-use lib.ListN.{set, length-set}
+use lib.ListN.{set}
 use mir.Val.{bool_byte}
 use lib.Seq.{sets}
-use borrow.Author.Rules.{rules}
 use Rattle.wire.specs.Fields.{le_flag, le8}
 use Rattle.inside.proofs.put_answer.Goals as goal
 

@@ -1,10 +1,8 @@
 -- `inside::put_answers` meets its contract. Assumes nothing.
-use Prim.Native.Nat.{ℕ, ◌*◌, ◌-◌, ◌≤◌}
-use mathlib.Core.Path.{◌≡◌, ◌∙◌, ap, refl}
+use Prim.Native.Nat.{◌*◌}
+use mathlib.Core.Path.{◌∙◌, ap, refl}
 use native.Mathlib.Omega.{arith}
-use lib.ListN.{length}
-use lib.Seq.{sets, length-sets}
-use borrow.Author.Rules.{rules}
+use lib.Seq.{sets}
 use Rattle.inside.specs.Inside.{inside_by}
 use Rattle.inside.specs.Call.{answer_bytes, answers}
 use Rattle.inside.proofs.Rows.{one_more}

@@ -1,12 +1,8 @@
-use Prim.Native.Nat.{ℕ, ◌*◌, ◌-◌, ◌≤◌}
-use mathlib.Core.Path.{◌≡◌, ◌∙◌, ap, refl}
-use native.Mathlib.Omega.{arith}
-use lib.ListN.{length}
-use lib.Seq.{sets, length-sets}
-use borrow.Author.Rules.{rules}
+use Prim.Native.Nat.{◌-◌, ◌≤◌}
+use mathlib.Core.Path.{◌≡◌}
+use lib.Seq.{sets}
 use Rattle.inside.specs.Inside.{inside_by}
-use Rattle.inside.specs.Call.{answer_bytes, answers}
-use Rattle.inside.proofs.Rows.{one_more}
+use Rattle.inside.specs.Call.{answers}
 use Rattle.inside.proofs.put_answers.Given as goal
 
 abbrev pub invariant-loop-k : goal.invariant-loop-k

@@ -1,9 +1,8 @@
 -- `inside::sides_before` meets its contract. Assumes nothing.
-use mathlib.Core.Path.{◌≡◌, ◌∙◌, sym}
-use Prim.Native.Nat.{◌+◌, ◌-◌, ◌≤◌}
+use mathlib.Core.Path.{◌∙◌, sym}
 use native.Mathlib.Omega.{arith}
-use Rattle.inside.specs.Inside.{before, negative_at}
-use Rattle.inside.proofs.Stops.{starts, stops, goes_on, ends}
+use Rattle.inside.specs.Inside.{negative_at}
+use Rattle.inside.proofs.Stops.{goes_on}
 use Rattle.inside.proofs.sides_before.Goals as goal
 
 pub loop-i-preserved : goal.loop-i-preserved

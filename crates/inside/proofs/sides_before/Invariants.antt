@@ -1,8 +1,6 @@
-use mathlib.Core.Path.{◌≡◌, ◌∙◌, sym}
+use mathlib.Core.Path.{◌≡◌}
 use Prim.Native.Nat.{◌+◌, ◌-◌, ◌≤◌}
-use native.Mathlib.Omega.{arith}
 use Rattle.inside.specs.Inside.{before, negative_at}
-use Rattle.inside.proofs.Stops.{starts, stops, goes_on, ends}
 use Rattle.inside.proofs.sides_before.Given as goal
 
 abbrev pub invariant-loop-i : goal.invariant-loop-i

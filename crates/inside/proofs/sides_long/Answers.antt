@@ -1,9 +1,7 @@
 -- `inside::sides_long` meets its contract. Assumes nothing.
-use mathlib.Core.Path.{◌≡◌}
-use Prim.Native.Nat.{◌+◌, ◌-◌, ◌≤◌}
 use native.Mathlib.Omega.{arith}
-use Rattle.inside.specs.Inside.{before, short_at}
-use Rattle.inside.proofs.Stops.{starts, stops, goes_on, ends}
+use Rattle.inside.specs.Inside.{short_at}
+use Rattle.inside.proofs.Stops.{stops, goes_on}
 use Rattle.inside.proofs.sides_long.Goals as goal
 
 pub returns-then-len : goal.returns-then-len

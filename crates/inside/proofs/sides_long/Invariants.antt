@@ -1,8 +1,6 @@
 use mathlib.Core.Path.{◌≡◌}
 use Prim.Native.Nat.{◌+◌, ◌-◌, ◌≤◌}
-use native.Mathlib.Omega.{arith}
 use Rattle.inside.specs.Inside.{before, short_at}
-use Rattle.inside.proofs.Stops.{starts, stops, goes_on, ends}
 use Rattle.inside.proofs.sides_long.Given as goal
 
 abbrev pub invariant-loop-i : goal.invariant-loop-i

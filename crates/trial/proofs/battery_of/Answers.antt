@@ -1,6 +1,5 @@
 -- `trial::battery_of` meets its contract. Assumes nothing.
 use Rattle.trial.specs.Trial.{battery_of}
-use Rattle.std.proofs.Common.{rules}
 use Rattle.trial.proofs.battery_of.Goals as goal
 
 pub returns : goal.returns

@@ -1,5 +1,5 @@
 -- `trial::draws` meets its contract. The invariant: the first `i` elements are the first `i` draws, and `y` is the generator after them. Assumes nothing.
-use Rattle.std.proofs.Common.{◌≡◌, ℕ, suc, ◌-◌, ◌≤◌, [], ◌∷◌, ◌++◌, length, take, set, sym, refl, ap, ◌∙◌, add-one, arith, length-set, take_all, take-suc-set, rules}
+use Rattle.std.proofs.Common.{◌≡◌, suc, [], ◌∷◌, ◌++◌, take, set, refl, ap, ◌∙◌, add-one, arith, length-set, take-suc-set, rules}
 use Rattle.trial.specs.Draws.{next, drawn, draws_of}
 use Rattle.trial.proofs.draws.Goals as goal
 

@@ -1,5 +1,5 @@
-use Rattle.std.proofs.Common.{◌≡◌, ℕ, suc, ◌-◌, ◌≤◌, [], ◌∷◌, ◌++◌, length, take, set, sym, refl, ap, ◌∙◌, add-one, arith, length-set, take_all, take-suc-set, rules}
-use Rattle.trial.specs.Draws.{next, drawn, draws_of}
+use Rattle.std.proofs.Common.{◌≡◌, ◌-◌, ◌≤◌, length, take}
+use Rattle.trial.specs.Draws.{drawn, draws_of}
 use Rattle.trial.proofs.draws.Given as goal
 
 abbrev pub invariant-loop-i : goal.invariant-loop-i

@@ -1,6 +1,5 @@
 -- `trial::fields_from` meets its contract. Assumes nothing.
 use Rattle.trial.specs.Trial.{fields_from}
-use Rattle.std.proofs.Common.{rules}
 use Rattle.trial.proofs.fields_from.Goals as goal
 
 pub returns-then-g : goal.returns-then-g

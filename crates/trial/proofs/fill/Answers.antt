@@ -1,5 +1,5 @@
 -- `trial::fill` meets its contract. The invariant: the block begins with the first `i` frames, and `h` is the generator after them. Assumes nothing.
-use Rattle.std.proofs.Common.{◌≡◌, ℕ, ◌+◌, ◌-◌, ◌*◌, ◌/◌, ◌≤◌, min, ◌++◌, length, take, drop, refl, ap, ◌∙◌, zero-le, add-one, arith, rules}
+use Rattle.std.proofs.Common.{◌≡◌, ℕ, ◌+◌, ◌*◌, ◌/◌, min, ◌++◌, length, take, drop, refl, ap, ◌∙◌, zero-le, add-one, arith}
 use native.Mathlib.Nat.{min-le_right}
 use Rattle.frame_telemetry.specs.TelemetryFrame.{telemetry_frame}
 use Rattle.trial.specs.declared.Generator.{Generator}
@@ -23,7 +23,7 @@ loop-i-preserved c =
     let b = c.loop-i.block in (
       omega arith,
       v.1,
-      c.put_next-h.auto.1.0 ∙ v.2,
+      c.put_next-h.auto.block ∙ v.2,
       rw add-one (c.put_next-h.ensures.value ∙ ap (λ (k : Generator). (next_frame k).generator) v.3),
       c.put_next-h.ensures.block_after
           ∙ ap (λ (k : Generator). take (106 * i) b ++ (telemetry_frame (next_frame k).telemetry ++ drop (106 * i + 106) b)) v.3

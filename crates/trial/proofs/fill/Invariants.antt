@@ -1,10 +1,5 @@
-use Rattle.std.proofs.Common.{◌≡◌, ℕ, ◌+◌, ◌-◌, ◌*◌, ◌/◌, ◌≤◌, min, ◌++◌, length, take, drop, refl, ap, ◌∙◌, zero-le, add-one, arith, rules}
-use native.Mathlib.Nat.{min-le_right}
-use Rattle.frame_telemetry.specs.TelemetryFrame.{telemetry_frame}
-use Rattle.trial.specs.declared.Generator.{Generator}
-use Rattle.trial.specs.Trial.{next_frame}
-use Rattle.trial.specs.Call.{onward, frames_of, room_for}
-use Rattle.trial.proofs.Rows.{row_next}
+use Rattle.std.proofs.Common.{◌≡◌, ◌-◌, ◌*◌, ◌≤◌, ◌++◌, length, drop}
+use Rattle.trial.specs.Call.{onward, frames_of}
 use Rattle.trial.proofs.fill.Given as goal
 
 abbrev pub invariant-loop-i : goal.invariant-loop-i

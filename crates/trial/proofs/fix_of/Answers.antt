@@ -1,6 +1,5 @@
 -- `trial::fix_of` meets its contract. Assumes nothing.
 use Rattle.trial.specs.Draws.{fix_of, case_of}
-use Rattle.std.proofs.Common.{rules}
 use Rattle.trial.proofs.fix_of.Goals as goal
 
 pub returns-in-Some : goal.returns-in-Some

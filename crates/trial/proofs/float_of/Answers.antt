@@ -1,6 +1,5 @@
 -- `trial::float_of` meets its contract. Assumes nothing.
 use Rattle.trial.specs.Draws.{float_of}
-use Rattle.std.proofs.Common.{rules}
 use Rattle.trial.proofs.float_of.Goals as goal
 
 pub returns : goal.returns

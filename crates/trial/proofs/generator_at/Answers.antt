@@ -1,6 +1,5 @@
 -- `trial::generator_at` meets its contract. Assumes nothing.
 use Rattle.trial.specs.Call.{generator_at}
-use Rattle.std.proofs.Common.{rules}
 use Rattle.trial.proofs.generator_at.Goals as goal
 
 pub returns : goal.returns

@@ -1,6 +1,6 @@
 -- `trial::generator_fault` meets its contract. Assumes nothing.
 use Rattle.trial.specs.Call.{generator_fault}
-use Rattle.std.proofs.Common.{rules, le-ltb, lt-ltb}
+use Rattle.std.proofs.Common.{le-ltb, lt-ltb}
 use Rattle.trial.proofs.generator_fault.Goals as goal
 
 pub returns-then-s-lt9 : goal.returns-then-s-lt9

@@ -1,6 +1,5 @@
 -- `trial::hdop_of` meets its contract. Assumes nothing.
 use Rattle.trial.specs.Trial.{hdop_of}
-use Rattle.std.proofs.Common.{rules}
 use Rattle.trial.proofs.hdop_of.Goals as goal
 
 pub returns-then-flag_of : goal.returns-then-flag_of

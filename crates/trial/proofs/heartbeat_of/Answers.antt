@@ -1,6 +1,5 @@
 -- `trial::heartbeat_of` meets its contract. Assumes nothing.
 use Rattle.trial.specs.Trial.{heartbeat_of}
-use Rattle.std.proofs.Common.{rules}
 use Rattle.trial.proofs.heartbeat_of.Goals as goal
 
 pub returns-then-flag_of : goal.returns-then-flag_of

@@ -1,5 +1,5 @@
 -- `trial::next_frame` meets its contract. Assumes nothing.
-use Rattle.std.proofs.Common.{◌≡◌, ℕ, true, List, get_or, refl, ap, ◌∙◌, rules}
+use Rattle.std.proofs.Common.{◌≡◌, ℕ, true, List, get_or, refl, ap, ◌∙◌}
 use Rattle.trial.specs.Draws.{drawn, draws_of}
 use Rattle.trial.specs.Trial.{telemetry_of, fields_from, next_frame}
 use Rattle.trial.proofs.next_frame.Goals as goal

@@ -1,6 +1,5 @@
 -- `trial::position_of` meets its contract. Assumes nothing.
 use Rattle.trial.specs.Trial.{position_of}
-use Rattle.std.proofs.Common.{rules}
 use Rattle.trial.proofs.position_of.Goals as goal
 
 pub returns-then-flag_of : goal.returns-then-flag_of

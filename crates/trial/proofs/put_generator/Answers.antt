@@ -1,5 +1,5 @@
 -- `trial::put_generator` meets its contract. Assumes nothing.
-use Rattle.std.proofs.Common.{◌++◌, rules}
+use Rattle.std.proofs.Common.{◌++◌}
 use Rattle.wire.specs.Fields.{le_bytes, le32, le_flag}
 use Rattle.wire.proofs.Stores.{joined}
 use Rattle.trial.specs.Call.{generator_bytes}

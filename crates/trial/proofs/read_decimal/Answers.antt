@@ -1,5 +1,5 @@
 -- `trial::read_decimal` meets its contract. The invariant: the digits that are left, after the number so far, give what the whole gives. Assumes nothing.
-use Rattle.std.proofs.Common.{◌≡◌, suc, ◌-◌, ◌≤◌, length, get_or, drop, sym, refl, ap, ◌∙◌, add-one, arith, rules, eq-eqb, ne_eqb}
+use Rattle.std.proofs.Common.{◌≡◌, suc, length, get_or, drop, sym, ap, ◌∙◌, add-one, arith, rules, eq-eqb, ne_eqb}
 use Rattle.types.specs.declared.OptionU32.{OptionU32}
 use Rattle.types.specs.declared.OptionU32.TheVariants.{None, Some}
 use Rattle.trial.specs.Decimal.{with_digit, digits_from, read_decimal}

@@ -1,8 +1,6 @@
-use Rattle.std.proofs.Common.{◌≡◌, suc, ◌-◌, ◌≤◌, length, get_or, drop, sym, refl, ap, ◌∙◌, add-one, arith, rules, eq-eqb, ne_eqb}
-use Rattle.types.specs.declared.OptionU32.{OptionU32}
-use Rattle.types.specs.declared.OptionU32.TheVariants.{None, Some}
-use Rattle.trial.specs.Decimal.{with_digit, digits_from, read_decimal}
-use Rattle.trial.proofs.Digits.{none_stays, digit_next, digits_end}
+use Rattle.std.proofs.Common.{◌≡◌, ◌-◌, ◌≤◌, length, drop}
+use Rattle.types.specs.declared.OptionU32.TheVariants.{Some}
+use Rattle.trial.specs.Decimal.{digits_from}
 use Rattle.trial.proofs.read_decimal.Given as goal
 
 abbrev pub invariant-loop-i : goal.invariant-loop-i

@@ -1,6 +1,5 @@
 -- `trial::sats_of` meets its contract. Assumes nothing.
 use Rattle.trial.specs.Trial.{sats_of}
-use Rattle.std.proofs.Common.{rules}
 use Rattle.trial.proofs.sats_of.Goals as goal
 
 pub returns-then-flag_of : goal.returns-then-flag_of

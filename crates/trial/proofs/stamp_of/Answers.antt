@@ -1,6 +1,6 @@
 -- `trial::stamp_of` meets its contract. Assumes nothing.
 use Rattle.trial.specs.Draws.{stamp_of}
-use Rattle.std.proofs.Common.{arith, rules}
+use Rattle.std.proofs.Common.{arith}
 use Rattle.trial.proofs.stamp_of.Goals as goal
 
 pub returns : goal.returns

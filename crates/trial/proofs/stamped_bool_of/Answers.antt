@@ -1,6 +1,5 @@
 -- `trial::stamped_bool_of` meets its contract. Assumes nothing.
 use Rattle.trial.specs.Trial.{stamped_bool_of}
-use Rattle.std.proofs.Common.{rules}
 use Rattle.trial.proofs.stamped_bool_of.Goals as goal
 
 pub returns-then-flag_of : goal.returns-then-flag_of

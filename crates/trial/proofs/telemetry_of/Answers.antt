@@ -1,6 +1,5 @@
 -- `trial::telemetry_of` meets its contract. Assumes nothing.
 use Rattle.trial.specs.Trial.{telemetry_of}
-use Rattle.std.proofs.Common.{rules}
 use Rattle.trial.proofs.telemetry_of.Goals as goal
 
 pub returns : goal.returns

@@ -1,6 +1,5 @@
 -- `trial::vec3_of` meets its contract. Assumes nothing.
 use Rattle.trial.specs.Trial.{vec3_of}
-use Rattle.std.proofs.Common.{rules}
 use Rattle.trial.proofs.vec3_of.Goals as goal
 
 pub returns : goal.returns

@@ -1,5 +1,5 @@
 -- `trial::with_digit` meets its contract. Assumes nothing.
-use Rattle.std.proofs.Common.{rules, le-ltb, lt-ltb, le-leb}
+use Rattle.std.proofs.Common.{le-ltb, lt-ltb, le-leb}
 use borrow.Author.Tests.{lt-leb}
 use Rattle.trial.specs.Decimal.{with_digit}
 use Rattle.trial.proofs.with_digit.Goals as goal

@@ -1,0 +1,38 @@
+-- `frame_wide::high_last` meets its contract: the calls' contracts, one after the other, are a run of stores. Assumes nothing.
+use Prim.Native.Nat.{ℕ}
+use mathlib.Core.Path.{◌≡◌, ◌∙◌, ap, refl}
+use mathlib.Core.List.{List, [], ◌∷◌}
+use lib.ListN.{length, get_or}
+use lib.Seq.{length-sets}
+use Rattle.wire.specs.Fields.{u8_at, le_bytes, le16, elements_from, bytes_from}
+use Rattle.wire.specs.Frame.{frame_head}
+use Rattle.wire.proofs.Stores.{Piece, put, after, done, into}
+use Rattle.frame_wide.specs.Resized.{widened}
+use Rattle.frame_wide.specs.WideState.{state_gaps}
+use Rattle.frame_wide.proofs.Places.{high_at, state_up, known, stretch}
+use borrow.Author.Rules.{rules}
+use Rattle.frame_wide.proofs.high_last.Goals as goal
+
+abbrev pieces : List ℕ → List ℕ → List Piece
+pieces given s =
+    put 287 (high_at s 175 (get_or given 28 0)) ∷
+    put 296 (le_bytes 8 (get_or given 29 0)) ∷
+    put 304 (u8_at s 184 ∷ []) ∷
+    put 305 (u8_at s 185 ∷ []) ∷
+    []
+
+flat : (l given s : List ℕ) → after l (pieces (elements_from 0 given 0 30) (bytes_from s 0 186)) ≡ stretch state_up 287 19 l (elements_from 0 given 0 30) (bytes_from s 0 186)
+unfolding widened state_gaps frame_head u8_at le_bytes le16
+flat l given s = refl
+
+pub returns : goal.returns
+returns c =
+    let l = c.args.to.now in
+    let g = c.args.given.now in
+    let s = c.args.s.now in
+    known (stretch state_up 287 19 l) pieces 30 186 l g s c.requires.1 c.requires.0 (flat l g s)
+    (into c.put_high.ensures
+    (into c.put_eight.ensures
+    (into c.put_byte.ensures
+    (into c.put_byte-2.ensures
+    done))))

@@ -1,0 +1,42 @@
+-- `frame_wide::high_sixth` meets its contract: the calls' contracts, one after the other, are a run of stores. Assumes nothing.
+use Prim.Native.Nat.{ℕ}
+use mathlib.Core.Path.{◌≡◌, ◌∙◌, ap, refl}
+use mathlib.Core.List.{List, [], ◌∷◌}
+use lib.ListN.{length, get_or, take, drop}
+use lib.Seq.{length-sets}
+use Rattle.wire.specs.Fields.{u8_at, le_bytes, le16, elements_from, bytes_from}
+use Rattle.wire.specs.Frame.{frame_head}
+use Rattle.wire.proofs.Stores.{Piece, put, after, done, into}
+use Rattle.frame_wide.specs.Resized.{widened}
+use Rattle.frame_wide.specs.WideState.{state_gaps}
+use Rattle.frame_wide.proofs.Places.{high_at, state_up, known, stretch}
+use borrow.Author.Rules.{rules}
+use Rattle.frame_wide.proofs.high_sixth.Goals as goal
+
+abbrev pieces : List ℕ → List ℕ → List Piece
+pieces given s =
+    put 234 (u8_at s 134 ∷ []) ∷
+    put 235 (high_at s 135 (get_or given 25 0)) ∷
+    put 244 (high_at s 140 (get_or given 26 0)) ∷
+    put 253 (high_at s 145 (get_or given 27 0)) ∷
+    put 262 (take 24 (drop 150 s)) ∷
+    put 286 (u8_at s 174 ∷ []) ∷
+    []
+
+flat : (l given s : List ℕ) → after l (pieces (elements_from 0 given 0 30) (bytes_from s 0 186)) ≡ stretch state_up 234 53 l (elements_from 0 given 0 30) (bytes_from s 0 186)
+unfolding widened state_gaps frame_head u8_at le_bytes le16
+flat l given s = refl
+
+pub returns : goal.returns
+returns c =
+    let l = c.args.to.now in
+    let g = c.args.given.now in
+    let s = c.args.s.now in
+    known (stretch state_up 234 53 l) pieces 30 186 l g s c.requires.1 c.requires.0 (flat l g s)
+    (into c.put_byte.ensures
+    (into c.put_high.ensures
+    (into c.put_high-2.ensures
+    (into c.put_high-3.ensures
+    (into c.put_part.ensures
+    (into c.put_byte-2.ensures
+    done))))))

@@ -1,0 +1,42 @@
+-- `frame_wide::low_first` meets its contract: the calls' contracts, one after the other, are a run of stores. Assumes nothing.
+use Prim.Native.Nat.{ℕ}
+use mathlib.Core.Path.{◌≡◌, ◌∙◌, ap, refl}
+use mathlib.Core.List.{List, [], ◌∷◌}
+use lib.ListN.{length, get_or}
+use lib.Seq.{length-sets}
+use Rattle.wire.specs.Fields.{u8_at, number_at, le_bytes, le16, elements_from, bytes_from}
+use Rattle.wire.specs.Frame.{frame_head}
+use Rattle.wire.proofs.Stores.{Piece, put, after, done, into}
+use Rattle.frame_wide.specs.Resized.{narrowed}
+use Rattle.frame_wide.specs.WideState.{state_gaps, state_on}
+use Rattle.frame_wide.proofs.Places.{low_at, known, stretch}
+use borrow.Author.Rules.{rules}
+use Rattle.frame_wide.proofs.low_first.Goals as goal
+
+abbrev pieces : List ℕ → List ℕ → List Piece
+pieces given s =
+    put 4 (u8_at s 4 ∷ []) ∷
+    put 5 (u8_at s 5 ∷ []) ∷
+    put 6 (low_at s 6 (get_or given 0 0)) ∷
+    put 11 (low_at s 15 (get_or given 1 0)) ∷
+    put 16 (low_at s 24 (get_or given 2 0)) ∷
+    put 21 (low_at s 33 (get_or given 3 0)) ∷
+    []
+
+flat : (l given s : List ℕ) → after l (pieces (elements_from 0 given 0 30) (bytes_from s 0 306)) ≡ stretch state_on 4 22 l (elements_from 0 given 0 30) (bytes_from s 0 306)
+unfolding state_on narrowed state_gaps frame_head u8_at number_at le_bytes le16
+flat l given s = refl
+
+pub returns : goal.returns
+returns c =
+    let l = c.args.to.now in
+    let g = c.args.given.now in
+    let s = c.args.s.now in
+    known (stretch state_on 4 22 l) pieces 30 306 l g s c.requires.1 c.requires.0 (flat l g s)
+    (into c.put_byte.ensures
+    (into c.put_byte-2.ensures
+    (into c.put_low.ensures
+    (into c.put_low-2.ensures
+    (into c.put_low-3.ensures
+    (into c.put_low-4.ensures
+    done))))))

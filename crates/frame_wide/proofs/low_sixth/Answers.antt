@@ -1,0 +1,42 @@
+-- `frame_wide::low_sixth` meets its contract: the calls' contracts, one after the other, are a run of stores. Assumes nothing.
+use Prim.Native.Nat.{ℕ}
+use mathlib.Core.Path.{◌≡◌, ◌∙◌, ap, refl}
+use mathlib.Core.List.{List, [], ◌∷◌}
+use lib.ListN.{length, get_or, take, drop}
+use lib.Seq.{length-sets}
+use Rattle.wire.specs.Fields.{u8_at, number_at, le_bytes, le16, elements_from, bytes_from}
+use Rattle.wire.specs.Frame.{frame_head}
+use Rattle.wire.proofs.Stores.{Piece, put, after, done, into}
+use Rattle.frame_wide.specs.Resized.{narrowed}
+use Rattle.frame_wide.specs.WideState.{state_gaps, state_on}
+use Rattle.frame_wide.proofs.Places.{low_at, known, stretch}
+use borrow.Author.Rules.{rules}
+use Rattle.frame_wide.proofs.low_sixth.Goals as goal
+
+abbrev pieces : List ℕ → List ℕ → List Piece
+pieces given s =
+    put 134 (u8_at s 234 ∷ []) ∷
+    put 135 (low_at s 235 (get_or given 25 0)) ∷
+    put 140 (low_at s 244 (get_or given 26 0)) ∷
+    put 145 (low_at s 253 (get_or given 27 0)) ∷
+    put 150 (take 24 (drop 262 s)) ∷
+    put 174 (u8_at s 286 ∷ []) ∷
+    []
+
+flat : (l given s : List ℕ) → after l (pieces (elements_from 0 given 0 30) (bytes_from s 0 306)) ≡ stretch state_on 134 41 l (elements_from 0 given 0 30) (bytes_from s 0 306)
+unfolding state_on narrowed state_gaps frame_head u8_at number_at le_bytes le16
+flat l given s = refl
+
+pub returns : goal.returns
+returns c =
+    let l = c.args.to.now in
+    let g = c.args.given.now in
+    let s = c.args.s.now in
+    known (stretch state_on 134 41 l) pieces 30 306 l g s c.requires.1 c.requires.0 (flat l g s)
+    (into c.put_byte.ensures
+    (into c.put_low.ensures
+    (into c.put_low-2.ensures
+    (into c.put_low-3.ensures
+    (into c.put_part.ensures
+    (into c.put_byte-2.ensures
+    done))))))

@@ -1,0 +1,12 @@
+-- `frame_wide::u64_at` meets its contract. Assumes nothing.
+use mathlib.Core.Path.{sym}
+use Rattle.wire.proofs.Past.{number_past}
+use Rattle.frame_wide.proofs.Eight.{u64_halves}
+use borrow.Author.Rules.{rules}
+use Rattle.frame_wide.proofs.u64_at.Goals as goal
+
+pub returns-then-at-s : goal.returns-then-at-s
+returns-then-at-s c = let a = c.args in cc (u64_halves a.s.now a.at)
+
+pub returns-else-at-s : goal.returns-else-at-s
+returns-else-at-s c = let a = c.args in sym (number_past 8 a.s.now a.at c.if-at-s.false)
