@@ -32,7 +32,7 @@ abbrev pub Unless : Bool → Type 0 → Type 0
 Unless true P = Unit {0}
 Unless false P = P
 
--- `HeldRecent` without the instant in the k_th place of a frame: a timer's, then 25 to 28
+-- `HeldRecent` without the instant in the k-th place of a frame: a timer's, then 25 to 28
 pub record HeldBut (k now : ℕ) (x : Supervisor) : Type 0 where
   pub timer : (n : TimerName) → Unless (eqb k (timer_place n)) (Recent now (timer_of x.triggers n).since_ms)
   pub recovery : Unless (eqb k 25) (Recent now x.arbiter.recovery_since_ms)

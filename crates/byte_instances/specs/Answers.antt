@@ -29,5 +29,5 @@ pub record AnswerInstances : Type 0 where
   -- 31 for an area to remove that isn't held, before 5 for an output without room; a refused call writes nothing
   pub number_before_room : (remove_call [] 1 []).number ≡ 31
   pub refused_writes_nothing : (remove_call [] 1 before).output ≡ before
-  -- "cruise over speed × 1000"; "one for each non_zero remainder" of the legs, and none for the root's
+  -- "cruise over speed × 1000"; "one for each non-zero remainder" of the legs, and none for the root's
   pub cruise_alone : total_of near_home ≡ 2000

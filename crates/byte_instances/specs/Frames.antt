@@ -64,7 +64,7 @@ abbrev pub rules_number : List ℕ → ℕ
 rules_number s = fence_number (fence_of (read_fence s)).result
 
 pub record FrameInstances : Type 0 where
-  -- heads: "a two_byte length (of kind and body)"; "under 2 bytes, or fewer than 2 + length: 1", its own length and not the kind's; the kind before the length
+  -- heads: "a two-byte length (of kind and body)"; "under 2 bytes, or fewer than 2 + length: 1", its own length and not the kind's; the kind before the length
   pub length-of_kind_and_body : whole_frame (2 ∷ 0 ∷ 3 ∷ 0 ∷ []) ≡ 4
   pub short_by_its_own_length : frame_fault 3 104 (2 ∷ 0 ∷ 3 ∷ 0 ∷ []) ≡ 3
   pub kind_before_length : frame_fault 3 104 (2 ∷ 0 ∷ 4 ∷ 0 ∷ []) ≡ 2

@@ -49,7 +49,7 @@ succeeded with_side form next output =
 abbrev pub written : Bool → Form → Stepped → List ℕ → List ℕ → StepCall
 written with_side form next state output = cond (ltb (length output) (output_size with_side)) (declined 5 state output) (succeeded with_side form next output)
 
--- one step of an accepted flight on the form's clock, with the lengths that the flight holds, and with the keep_out areas of a frame
+-- one step of an accepted flight on the form's clock, with the lengths that the flight holds, and with the keep-out areas of a frame
 abbrev pub step_of : Form → Flight → List ℕ → Supervisor → Telemetry → Stepped
 step_of form f areas s t = step (settings_of form f.cfg) s (fed_at (with_areas areas (fence_site_by f.fence f.lengths)) t)
 

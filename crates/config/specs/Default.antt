@@ -1,4 +1,4 @@
--- The defaults: the Rust's sixty_two numbers, and its default fence. Assumes nothing.
+-- The defaults: the Rust's sixty-two numbers, and its default fence. Assumes nothing.
 use Rattle.std.specs.Prelude.{ℕ, true, false, List, [], ◌∷◌, Float}
 use Rattle.std.specs.Float.{binary32}
 use Rattle.std.specs.Float.Ieee.{round, neg}

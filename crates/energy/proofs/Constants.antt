@@ -1,4 +1,4 @@
--- The number of joules of a watt_hour. Assumes nothing.
+-- The number of joules of a watt-hour. Assumes nothing.
 use mathlib.Core.Bool.{false}
 use mathlib.Core.Path.{◌≡◌, refl}
 use lib.Ieee.{binary32, of_bits, round}

@@ -10,7 +10,7 @@ use Rattle.types.specs.declared.EnergyEstimate.{EnergyEstimate}
 use Rattle.types.specs.Vec3.{alt_m, horizontal_dist_home}
 use Rattle.config.specs.declared.Config.{Config}
 
--- 3600, the joules of a watt_hour (proofs/Constants.antt)
+-- 3600, the joules of a watt-hour (proofs/Constants.antt)
 abbrev pub joules_per_wh : Float
 joules_per_wh = of_bits binary32 0x4561_0000
 

@@ -69,6 +69,6 @@ after_config (ConfigRead.Frame cfg) fence = let read = read_fence fence in cond 
 unfoldable pub read_flight : List ℕ → List ℕ → Flight
 read_flight config fence = after_config (read_config config) fence
 
--- one step, with the lengths that the flight holds, and with the keep_out areas of a frame
+-- one step, with the lengths that the flight holds, and with the keep-out areas of a frame
 unfoldable pub step_flight : Flight → List ℕ → Supervisor → Telemetry → Stepped
 step_flight f areas s t = step (base_settings f.cfg) s (fed_at (with_areas areas (fence_site_by f.fence f.lengths)) t)

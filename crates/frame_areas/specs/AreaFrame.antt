@@ -21,7 +21,7 @@ Sent = Area (List ℕ)
 unfoldable pub corners_sent : List ℕ → List Point2
 corners_sent b = corners_at b 1 (min (u8_at b 0) 16)
 
--- the corners as a distance is taken from them: counter_clockwise, as a fence's are held
+-- the corners as a distance is taken from them: counter-clockwise, as a fence's are held
 abbrev pub ring_sent : List ℕ → List Point2
 ring_sent b = ring_of (held_polygon (corners_sent b))
 

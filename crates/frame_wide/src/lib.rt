@@ -1,5 +1,6 @@
 // Kinds 9 and 10: frames of kinds 3 and 5 with each instant in eight bytes.
 #![tactic(auto)]
+
 ghost use Rattle.std.specs.Prelude.{◌≡◌, ◌&&◌, not, cond, ◌+◌, ◌*◌, ◌≤◌, min, eqb, length, take, drop};
 ghost use mathlib.Core.List.{[], ◌∷◌, ◌++◌, foldr};
 ghost use Rattle.std.proofs.lemmas.List.Edits.{sets};

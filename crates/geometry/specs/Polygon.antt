@@ -13,7 +13,7 @@ use Rattle.geometry.specs.declared.GeofenceResult.{GeofenceResult}
 abbrev pub zero_point : Point2
 zero_point = record { n = zero_f; e = zero_f }
 
--- "Held counter_clockwise, reversed where the area is negative."
+-- "Held counter-clockwise, reversed where the area is negative."
 abbrev pub held_order : Bool → List Point2 → List Point2
 held_order ccw l = cond ccw l (reverse l)
 

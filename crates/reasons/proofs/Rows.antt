@@ -18,7 +18,7 @@ use Rattle.timers.specs.Timer.{cleared, pending, held_set, hold_pair, rested, ra
 use Rattle.config.specs.declared.Config.{Config}
 use Rattle.triggers.specs.declared.OptionPlace.{OptionPlace}
 use Rattle.triggers.specs.declared.TriggerState.{TriggerState}
-use Rattle.triggers.specs.Families.{invalid_input, gcs_age, stage_request, gcs_stage, gcs_clearing, gcs_link, rc_link, few_sats, many_sats, two_and_aHalf, poor_hdop, good_hdop, degraded, recovered, is3d, fixed, fence_approach, fence_breach, altitude_max, altitude_min, fence, is_present, low_voltage, stale_battery, battery_warn, battery_low, battery_critical, battery, energy_marginal, energy}
+use Rattle.triggers.specs.Families.{invalid_input, gcs_age, stage_request, gcs_stage, gcs_clearing, gcs_link, rc_link, few_sats, many_sats, two_and_a_half, poor_hdop, good_hdop, degraded, recovered, is3d, fixed, fence_approach, fence_breach, altitude_max, altitude_min, fence, is_present, low_voltage, stale_battery, battery_warn, battery_low, battery_critical, battery, energy_marginal, energy}
 use Rattle.triggers.specs.Update.{rc_lost}
 use Rattle.reasons.specs.Reasons.{held_for, raised_from, of_count, of_value, of_sample, of_place}
 
@@ -28,7 +28,7 @@ or_false false = refl
 
 -- ---- samples of the satellite receiver
 
-pub degraded_is : (s : OptionGpsSample) → degraded s ≡ not (of_sample s (λ g. of_count g.sats (λ n. not (ltb n 8)) && of_value g.hdop (λ h. not (lt two_and_aHalf h))))
+pub degraded_is : (s : OptionGpsSample) → degraded s ≡ not (of_sample s (λ g. of_count g.sats (λ n. not (ltb n 8)) && of_value g.hdop (λ h. not (lt two_and_a_half h))))
 degraded_is OptionGpsSample.None = refl
 degraded_is (OptionGpsSample.Some g) = at g.sats g.hdop
   where
@@ -36,12 +36,12 @@ degraded_is (OptionGpsSample.Some g) = at g.sats g.hdop
     not_not true = refl
     not_not false = refl
 
-    poor : (h : OptionF32) (few : Bool) → (few || poor_hdop h) ≡ not (not few && of_value h (λ x. not (lt two_and_aHalf x)))
+    poor : (h : OptionF32) (few : Bool) → (few || poor_hdop h) ≡ not (not few && of_value h (λ x. not (lt two_and_a_half x)))
     poor h true = refl
     poor OptionF32.None false = refl
-    poor (OptionF32.Some x) false = not_not (lt two_and_aHalf x)
+    poor (OptionF32.Some x) false = not_not (lt two_and_a_half x)
 
-    at : (n : OptionU8) (h : OptionF32) → (few_sats n || poor_hdop h) ≡ not (of_count n (λ k. not (ltb k 8)) && of_value h (λ x. not (lt two_and_aHalf x)))
+    at : (n : OptionU8) (h : OptionF32) → (few_sats n || poor_hdop h) ≡ not (of_count n (λ k. not (ltb k 8)) && of_value h (λ x. not (lt two_and_a_half x)))
     at OptionU8.None h = refl
     at (OptionU8.Some n) h = poor h (ltb n 8)
 

@@ -22,7 +22,7 @@ use Rattle.triggers.specs.declared.Place.{Place}
 use Rattle.triggers.specs.declared.OptionPlace.{OptionPlace}
 use Rattle.triggers.specs.declared.TriggerState.{TriggerState}
 use Rattle.triggers.specs.declared.Raised.{Raised}
-use Rattle.triggers.specs.Families.{gcs_age, stage_request, two_and_aHalf, is3d, in_air, is_present}
+use Rattle.triggers.specs.Families.{gcs_age, stage_request, two_and_a_half, is3d, in_air, is_present}
 use Rattle.triggers.specs.Update.{none_raised}
 
 -- ---- the words of the rows
@@ -144,7 +144,7 @@ module _ (clock : Clock) (before : TriggerState) (t : Telemetry) (cfg : Config) 
   -- no fresh sample that tells of 8 satellites or more and an hdop not above 2.5, for gps_degraded_set_ms; until one of 10 or more and at most 2, for gps_degraded_clear_ms
   filed Reason.GpsDegraded =
       Action.Warn when raised before.raised.gps_degraded
-      (held before.gps_deg_set (not (of_sample gps_sample (λ g. of_count g.sats (λ n. not (ltb n 8)) && of_value g.hdop (λ h. not (lt two_and_aHalf h))))) cfg.gps_degraded_set_ms)
+      (held before.gps_deg_set (not (of_sample gps_sample (λ g. of_count g.sats (λ n. not (ltb n 8)) && of_value g.hdop (λ h. not (lt two_and_a_half h))))) cfg.gps_degraded_set_ms)
       (held before.gps_deg_clear (of_sample gps_sample (λ g. of_count g.sats (λ n. leb 10 n) && of_value g.hdop (λ h. le h two))) cfg.gps_degraded_clear_ms)
   -- no fresh sample with a fix in three dimensions for gps_lost_set_ms; until one for gps_lost_clear_ms
   filed Reason.GpsLost =

@@ -85,7 +85,7 @@ step_on t = record { with_side = false; config = config; fence = fence; telemetr
 abbrev pub step_with_side : Telemetry → Call
 step_with_side t = record { with_side = true; config = config; fence = fence; telemetry = telemetry_frame t; output = replicate 96 0; areas = [] }
 
--- the frame of one keep_out area, five metres north of home: a crane that is up
+-- the frame of one keep-out area, five metres north of home: a crane that is up
 abbrev pub at : ℕ → ℕ → Point2
 at north east = record { n = decimal north 1; e = decimal east 1 }
 

@@ -34,7 +34,7 @@ shown_action output = action_at output 4
 abbrev pub flight_of : Call → Flight
 flight_of c = read_flight c.config c.fence
 
--- "all it was fed but the state": its telemetry, its own fence and its own keep_out areas
+-- "all it was fed but the state": its telemetry, its own fence and its own keep-out areas
 abbrev pub fed_by : Form → Call → Fed
 fed_by form c = fed_at (with_areas c.areas (fence_site (flight_of c).fence)) (telemetry_in form c.telemetry)
 

@@ -1,6 +1,6 @@
 -- Document 01: "Program `decide` reads a kind 1, a kind 2, then kind 3 frames from standard input and writes one kind 4 frame a step. Where the
 -- input ends at a frame boundary, even before the first frame, it ends and writes no more; at the first refusal it writes one kind 255 frame
--- and ends." Document 02, L5: "Fences come as kind 8 too": `read_fence` takes either. Document 02, L3, of keep_out areas, kind 13: "`decide` takes at most
+-- and ends." Document 02, L5: "Fences come as kind 8 too": `read_fence` takes either. Document 02, L3, of keep-out areas, kind 13: "`decide` takes at most
 -- one before each kind 3, checked when read, which holds until the next one; before the first no area is held." Assumes nothing.
 use Rattle.std.specs.Prelude.{ℕ, zero, suc, ◌+◌, ◌-◌, Bool, true, false, ◌||◌, cond, List, [], ◌++◌, eqb, ltb, length, take, drop}
 use Rattle.config.specs.declared.Config.{Config}

@@ -1,5 +1,6 @@
 // The work of the program `decide`, on slices: what is written for each frame that it reads, and when it ends.
 #![tactic(auto)]
+
 ghost use Rattle.std.specs.Prelude.{◌≡◌, List, ℕ, ◌+◌, ◌≤◌, length, take, drop};
 ghost use Rattle.wire.specs.Frame.{frame_written};
 ghost use Rattle.frame_decision.specs.DecisionFrame.{decision_frame};

@@ -33,7 +33,7 @@ fence_site f = record { near = nearest (ring_of f.poly); min_alt = f.min_alt_m; 
 abbrev pub fence_site_by : Geofence → SideLengths → Site
 fence_site_by f lengths = record { near = nearest_by (ring_of f.poly) lengths.m; min_alt = f.min_alt_m; max_alt = f.max_alt_m }
 
--- document 02, L3: "Every trigger and the reported distance use clearance", with the keep_out areas of a frame; the altitudes are the fence's alone
+-- document 02, L3: "Every trigger and the reported distance use clearance", with the keep-out areas of a frame; the altitudes are the fence's alone
 abbrev pub with_areas : List ℕ → Site → Site
 with_areas areas site = record { near = λ p. clearance_at areas (site.near p) p; min_alt = site.min_alt; max_alt = site.max_alt }
 

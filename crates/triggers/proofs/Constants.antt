@@ -2,8 +2,8 @@
 use mathlib.Core.Path.{◌≡◌, refl}
 use mathlib.Core.Bool.{false}
 use lib.Ieee.{binary32, round, of_bits}
-use Rattle.triggers.specs.Families.{two_and_aHalf}
+use Rattle.triggers.specs.Families.{two_and_a_half}
 
-pub two_and_a_half_is : two_and_aHalf ≡ round binary32 false 5 2
+pub two_and_a_half_is : two_and_a_half ≡ round binary32 false 5 2
 unfolding of_bits round
 two_and_a_half_is = refl

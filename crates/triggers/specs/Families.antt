@@ -110,12 +110,12 @@ many_sats OptionU8.None = false
 many_sats (OptionU8.Some n) = leb 10 n
 
 -- above 2.5 (proofs/Constants.antt), or none told; at most 2
-abbrev pub two_and_aHalf : Float
-two_and_aHalf = of_bits binary32 0x4020_0000
+abbrev pub two_and_a_half : Float
+two_and_a_half = of_bits binary32 0x4020_0000
 
 abbrev pub poor_hdop : OptionF32 → Bool
 poor_hdop OptionF32.None = true
-poor_hdop (OptionF32.Some h) = lt two_and_aHalf h
+poor_hdop (OptionF32.Some h) = lt two_and_a_half h
 
 abbrev pub good_hdop : OptionF32 → Bool
 good_hdop OptionF32.None = false

@@ -43,7 +43,7 @@ fresh_battery_percent clock now b limit cap =
     or_else (fresh_value clock now b.remaining_wh limit) (λ r. mul binary32 (div binary32 r cap) hundred)
     (fresh_value clock now b.percent limit)
 
--- the charge in watt_hours: a fresh remaining_wh, else of the fresh percentage
+-- the charge in watt-hours: a fresh remaining_wh, else of the fresh percentage
 unfoldable pub fresh_remaining_wh : Clock → ℕ → BatteryInputs → ℕ → Float → OptionF32
 fresh_remaining_wh clock now b limit cap =
     or_else (fresh_value clock now b.remaining_wh limit) (λ r. r)

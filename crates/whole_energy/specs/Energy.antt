@@ -58,7 +58,7 @@ cruise_leg x = leg (cruise_energy x) (cruise_divisor x)
 abbrev pub descent_leg : Return → Leg
 descent_leg x = leg (descent_energy x) x.speed_descent
 
--- "The total adds one for each non_zero remainder."
+-- "The total adds one for each non-zero remainder."
 unfoldable pub total_of : Return → ℕ
 total_of x = rounded_up (climb_leg x) + rounded_up (cruise_leg x) + rounded_up (descent_leg x)
 

@@ -88,7 +88,7 @@ NoNan (Flag ∷ ks) s i = NoNan ks s (i + 1)
 NoNan (U16 ∷ ks) s i = NoNan ks s (i + 2)
 NoNan (U32 ∷ ks) s i = NoNan ks s (i + 4)
 
--- the bytes from i, with each NaN's bits as 7FC00000: "frames round_trip up to the bits of a NaN"
+-- the bytes from i, with each NaN's bits as 7FC00000: "frames round-trip up to the bits of a NaN"
 abbrev pub nan_rewritten : List Sort → List ℕ → ℕ → List ℕ
 nan_rewritten [] s i = []
 nan_rewritten (F32 ∷ ks) s i = le_f32 (f32_at s i) ++ nan_rewritten ks s (i + 4)

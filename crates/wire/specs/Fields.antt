@@ -1,4 +1,4 @@
--- Fields of a frame in a list of bytes: read at a place, and written as bytes. "all little_endian", "bool a byte 0 or 1",
+-- Fields of a frame in a list of bytes: read at a place, and written as bytes. "all little-endian", "bool a byte 0 or 1",
 -- "Written NaNs are 7FC00000". Assumes nothing.
 use Rattle.std.specs.Prelude.{ℕ, zero, suc, ◌+◌, ◌*◌, ◌/◌, ◌%◌, ◌<◌, List, [], ◌∷◌, Bool, cond, get_or, eqb, ltb, Float}
 use Rattle.std.specs.Float.{binary32}

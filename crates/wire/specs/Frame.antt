@@ -1,4 +1,4 @@
--- A frame's head: "a two_byte length (of kind and body), a two_byte kind", and the refusal that it earns. Assumes nothing.
+-- A frame's head: "a two-byte length (of kind and body), a two-byte kind", and the refusal that it earns. Assumes nothing.
 use Rattle.std.specs.Prelude.{ℕ, ◌+◌, List, [], ◌∷◌, ◌++◌, Bool, cond, ◌&&◌, length, drop, ltb, eqb}
 use Rattle.wire.specs.Fields.{u16_at, le16}
 

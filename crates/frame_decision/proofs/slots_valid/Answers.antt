@@ -1,4 +1,4 @@
--- `frame_decision::slots_valid` meets its contract. The loop's invariant: the slots before the i_th are valid. Assumes nothing.
+-- `frame_decision::slots_valid` meets its contract. The loop's invariant: the slots before the i-th are valid. Assumes nothing.
 use Prim.Native.Nat.{ℕ, zero, suc, ◌+◌, ◌*◌, ◌-◌}
 use mathlib.Core.Path.{◌≡◌, ◌∙◌, ap, refl, sym}
 use mathlib.Core.List.{List}

@@ -1,4 +1,4 @@
--- `frame_state::timers_valid` meets its contract. The loop's invariant: the timers before the i_th are valid. Assumes nothing.
+-- `frame_state::timers_valid` meets its contract. The loop's invariant: the timers before the i-th are valid. Assumes nothing.
 use Prim.Native.Nat.{ℕ, zero, suc, ◌+◌, ◌*◌, ◌-◌}
 use mathlib.Core.Path.{◌≡◌, ◌∙◌, ap, refl, sym}
 use mathlib.Core.List.{List}

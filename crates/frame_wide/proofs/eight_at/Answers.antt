@@ -3,7 +3,6 @@ use Prim.Native.Nat.{◌+◌, ◌*◌}
 use mathlib.Core.Path.{◌∙◌, sym}
 use Rattle.wire.specs.Fields.{u8_at}
 use Rattle.frame_wide.proofs.Eight.{eight_is}
-use borrow.Author.Rules.{rules}
 use Rattle.frame_wide.proofs.eight_at.Goals as goal
 
 pub returns : goal.returns

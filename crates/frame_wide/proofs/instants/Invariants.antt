@@ -1,12 +1,8 @@
-use Prim.Native.Nat.{ℕ, ◌+◌, ◌*◌, ◌-◌, ◌≤◌, ◌<◌}
-use mathlib.Core.Path.{◌≡◌, ◌∙◌, sym, ap, refl}
-use mathlib.Core.List.{List, [], ◌++◌, append-nil}
-use native.Mathlib.Omega.{arith}
-use lib.ListN.{length, take, drop, length-set, drop_of_length-le}
-use lib.Seq.{take_all}
-use borrow.Author.Rules.{rules}
+use Prim.Native.Nat.{◌+◌, ◌*◌, ◌-◌, ◌≤◌}
+use mathlib.Core.Path.{◌≡◌}
+use mathlib.Core.List.{◌++◌}
+use lib.ListN.{length, take, drop}
 use Rattle.frame_wide.specs.Resized.{instants_at}
-use Rattle.frame_wide.proofs.Rows.{cons_at, instants_next_lem}
 use Rattle.frame_wide.proofs.instants.Given as goal
 
 abbrev pub invariant-loop-k : goal.invariant-loop-k

@@ -1,10 +1,8 @@
 -- `frame_wide::instants_next` meets its contract. The invariant: the first `k` timers' instants are stored. Assumes nothing.
-use Prim.Native.Nat.{suc, ◌-◌, ◌≤◌}
-use mathlib.Core.Path.{◌≡◌, ◌∙◌, ap, refl}
+use mathlib.Core.Path.{◌≡◌, ◌∙◌, ap}
 use mathlib.Core.Bool.{Bool, cond}
-use native.Mathlib.Numerals.{add-one}
 use native.Mathlib.Omega.{arith}
-use lib.ListN.{length, get_or, set, length-set}
+use lib.ListN.{length, get_or, set}
 use borrow.Author.Rules.{rules}
 use Rattle.frame_wide.proofs.Nexts.{stayed, all_stored}
 use Rattle.frame_wide.proofs.instants_next.Goals as goal

@@ -1,11 +1,7 @@
-use Prim.Native.Nat.{suc, ◌-◌, ◌≤◌}
-use mathlib.Core.Path.{◌≡◌, ◌∙◌, ap, refl}
-use mathlib.Core.Bool.{Bool, cond}
-use native.Mathlib.Numerals.{add-one}
-use native.Mathlib.Omega.{arith}
-use lib.ListN.{length, get_or, set, length-set}
-use borrow.Author.Rules.{rules}
-use Rattle.frame_wide.proofs.Nexts.{stayed, all_stored}
+use Prim.Native.Nat.{◌-◌, ◌≤◌}
+use mathlib.Core.Path.{◌≡◌}
+use lib.ListN.{length}
+use Rattle.frame_wide.proofs.Nexts.{stayed}
 use Rattle.frame_wide.proofs.instants_next.Given as goal
 
 abbrev pub invariant-loop-k : goal.invariant-loop-k

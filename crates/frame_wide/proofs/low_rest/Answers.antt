@@ -1,16 +1,14 @@
 -- `frame_wide::low_rest` meets its contract: the calls' contracts, one after the other, are a run of stores. Assumes nothing.
 use Prim.Native.Nat.{ℕ}
-use mathlib.Core.Path.{◌≡◌, ◌∙◌, ap, refl}
+use mathlib.Core.Path.{◌≡◌, refl}
 use mathlib.Core.List.{List, [], ◌∷◌}
-use lib.ListN.{length, take, drop}
-use lib.Seq.{length-sets}
+use lib.ListN.{take, drop}
 use Rattle.wire.specs.Fields.{u8_at, number_at, le_bytes, le16, elements_from, bytes_from}
 use Rattle.wire.specs.Frame.{frame_head}
 use Rattle.wire.proofs.Stores.{Piece, put, after, done, into}
 use Rattle.frame_wide.specs.Resized.{narrowed}
 use Rattle.frame_wide.specs.WideState.{state_gaps, state_on}
 use Rattle.frame_wide.proofs.Places.{known, stretch}
-use borrow.Author.Rules.{rules}
 use Rattle.frame_wide.proofs.low_rest.Goals as goal
 
 abbrev pieces : List ℕ → List ℕ → List Piece

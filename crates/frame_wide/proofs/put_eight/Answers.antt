@@ -5,7 +5,6 @@ use lib.Seq.{sets}
 use Rattle.wire.specs.Fields.{le32, le_bytes}
 use Rattle.wire.proofs.Stores.{joined}
 use Rattle.frame_wide.proofs.Eight.{le64_halves}
-use borrow.Author.Rules.{rules}
 use Rattle.frame_wide.proofs.put_eight.Goals as goal
 
 pub returns : goal.returns

@@ -1,10 +1,8 @@
 -- `frame_wide::put_four` meets its contract. Assumes nothing.
 use mathlib.Core.Path.{◌≡◌}
-use Prim.Native.Nat.{◌+◌, ◌%◌, ◌/◌, suc}
+use Prim.Native.Nat.{◌+◌, suc}
 use native.Mathlib.Omega.{arith}
-use lib.ListN.{length-set, set}
 use Rattle.wire.proofs.Number.{le32_is}
-use borrow.Author.Rules.{rules}
 use Rattle.frame_wide.proofs.put_four.Goals as goal
 
 pub returns : goal.returns

@@ -7,7 +7,6 @@ use lib.Dec.{eqb}
 use lib.Seq.{sets}
 use Rattle.wire.specs.Fields.{u8_at, le_bytes}
 use Rattle.wire.proofs.Stores.{joined}
-use borrow.Author.Rules.{rules}
 use Rattle.frame_wide.proofs.put_high.Goals as goal
 
 pub returns : goal.returns

@@ -1,9 +1,6 @@
 -- `frame_wide::put_part` meets its contract. Assumes nothing.
-use mathlib.Core.Path.{ap, refl}
-use lib.Seq.{sets}
-use Rattle.wire.proofs.Whole.{whole}
+use mathlib.Core.Path.{refl}
 use Rattle.frame_wide.proofs.Rows.{part_stored}
-use borrow.Author.Rules.{rules}
 use Rattle.frame_wide.proofs.put_part.Goals as goal
 
 pub returns : goal.returns

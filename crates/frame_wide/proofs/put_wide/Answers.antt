@@ -1,10 +1,7 @@
 -- `frame_wide::put_wide` meets its contract. Assumes nothing.
-use mathlib.Core.Path.{◌∙◌, sym, ap}
+use mathlib.Core.Path.{◌∙◌, ap}
 use mathlib.Core.Bool.{Bool, cond}
-use native.Mathlib.Omega.{arith}
-use lib.Seq.{length-take-le}
 use Rattle.frame_wide.proofs.Rows.{put_piece}
-use borrow.Author.Rules.{rules}
 use Rattle.frame_wide.proofs.put_wide.Goals as goal
 
 pub returns : goal.returns

@@ -8,7 +8,6 @@ use Rattle.wire.proofs.Stores.{Piece, put, after, done, into}
 use Rattle.frame_wide.specs.Resized.{instants_at}
 use Rattle.frame_wide.specs.WideState.{state_gaps}
 use Rattle.frame_wide.proofs.Places.{state_read, known}
-use borrow.Author.Rules.{rules}
 use Rattle.frame_wide.proofs.state_straight.Goals as goal
 
 abbrev pieces : List ℕ → List ℕ → List Piece

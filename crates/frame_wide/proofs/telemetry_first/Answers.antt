@@ -1,15 +1,12 @@
 -- `frame_wide::telemetry_first` meets its contract: the calls' contracts, one after the other, are a run of stores. Assumes nothing.
 use Prim.Native.Nat.{ℕ}
-use mathlib.Core.Path.{◌≡◌, ◌∙◌, ap, refl}
+use mathlib.Core.Path.{◌≡◌, refl}
 use mathlib.Core.List.{List, [], ◌∷◌}
-use lib.ListN.{length}
-use lib.Seq.{length-sets}
 use Rattle.wire.specs.Fields.{u8_at, number_at, bytes_from}
 use Rattle.wire.proofs.Stores.{Piece, put, after, done, into}
 use Rattle.frame_wide.specs.Resized.{instants_at}
 use Rattle.frame_wide.specs.WideTelemetry.{telemetry_gaps}
 use Rattle.frame_wide.proofs.Places.{telemetry_read, known, stretch}
-use borrow.Author.Rules.{rules}
 use Rattle.frame_wide.proofs.telemetry_first.Goals as goal
 
 abbrev pieces : List ℕ → List ℕ → List Piece

@@ -8,7 +8,6 @@ use Rattle.wire.proofs.Stores.{Piece, put, after, done, into}
 use Rattle.frame_wide.specs.Resized.{instants_at}
 use Rattle.frame_wide.specs.WideTelemetry.{telemetry_gaps}
 use Rattle.frame_wide.proofs.Places.{telemetry_read, known}
-use borrow.Author.Rules.{rules}
 use Rattle.frame_wide.proofs.telemetry_straight.Goals as goal
 
 abbrev pieces : List ℕ → List ℕ → List Piece

@@ -2,7 +2,6 @@
 use mathlib.Core.Path.{sym}
 use Rattle.wire.proofs.Past.{number_past}
 use Rattle.frame_wide.proofs.Eight.{u64_halves}
-use borrow.Author.Rules.{rules}
 use Rattle.frame_wide.proofs.u64_at.Goals as goal
 
 pub returns-then-at-s : goal.returns-then-at-s

@@ -1,12 +1,10 @@
 -- `frame_wide::widen` meets its contract. Assumes nothing.
-use Prim.Native.Nat.{◌+◌, ◌*◌, ◌-◌, ◌≤◌}
+use Prim.Native.Nat.{◌+◌, ◌*◌, ◌-◌}
 use mathlib.Core.Path.{◌≡◌, ◌∙◌, ap, refl}
-use mathlib.Core.List.{◌++◌, foldr}
+use mathlib.Core.List.{◌++◌}
 use native.Mathlib.Omega.{arith}
-use lib.ListN.{length, get_or, take, drop, length-drop}
+use lib.ListN.{length, get_or, drop}
 use lib.Seq.{length-sets}
-use borrow.Author.Rules.{rules}
-use Rattle.frame_wide.specs.Resized.{widened}
 use Rattle.frame_wide.proofs.Rows.{rest, cons_at, sum-next, wide_next, wide_end, wide_behind}
 use Rattle.frame_wide.proofs.widen.Goals as goal
 

@@ -1,12 +1,8 @@
 use Prim.Native.Nat.{◌+◌, ◌*◌, ◌-◌, ◌≤◌}
-use mathlib.Core.Path.{◌≡◌, ◌∙◌, ap, refl}
+use mathlib.Core.Path.{◌≡◌}
 use mathlib.Core.List.{◌++◌, foldr}
-use native.Mathlib.Omega.{arith}
-use lib.ListN.{length, get_or, take, drop, length-drop}
-use lib.Seq.{length-sets}
-use borrow.Author.Rules.{rules}
+use lib.ListN.{length, take, drop}
 use Rattle.frame_wide.specs.Resized.{widened}
-use Rattle.frame_wide.proofs.Rows.{rest, cons_at, sum-next, wide_next, wide_end, wide_behind}
 use Rattle.frame_wide.proofs.widen.Given as goal
 
 abbrev pub invariant-loop-k : goal.invariant-loop-k

@@ -9,7 +9,6 @@ use Rattle.wire.specs.Frame.{frame_head}
 use Rattle.frame_wide.specs.Resized.{widened}
 use Rattle.frame_wide.specs.WideTelemetry.{telemetry_gaps}
 use Rattle.frame_wide.proofs.Heads.{head_first, head_behind}
-use borrow.Author.Rules.{rules}
 use Rattle.frame_wide.proofs.widen_telemetry.Goals as goal
 
 pub widen-requires : goal.widen-requires

@@ -1,5 +1,4 @@
 -- `stream::answer_config` meets its contract. Assumes nothing.
-use borrow.Author.Rules.{rules}
 use Rattle.stream.specs.Stream.{answer_config}
 use Rattle.stream.proofs.Room.{written_nothing}
 use Rattle.stream.proofs.answer_config.Goals as goal

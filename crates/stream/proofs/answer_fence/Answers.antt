@@ -1,6 +1,5 @@
 -- `stream::answer_fence` meets its contract. Assumes nothing.
 use borrow.Author.Tests.{eq-eqb, ne_eqb}
-use borrow.Author.Rules.{rules}
 use Rattle.stream.specs.Stream.{answer_fence}
 use Rattle.stream.proofs.Room.{written_nothing}
 use Rattle.stream.proofs.answer_fence.Goals as goal

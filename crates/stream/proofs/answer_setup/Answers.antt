@@ -2,7 +2,6 @@
 use mathlib.Core.Path.{refl}
 use Rattle.stream.specs.Stream.{answer_setup}
 use Rattle.stream.proofs.Room.{written_nothing}
-use borrow.Author.Rules.{rules}
 use Rattle.stream.proofs.answer_setup.Goals as goal
 
 pub returns-in-Config : goal.returns-in-Config

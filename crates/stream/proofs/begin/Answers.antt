@@ -1,6 +1,5 @@
 -- `stream::begin` meets its contract. Assumes nothing.
 use Rattle.stream.specs.Stream.{begin}
-use borrow.Author.Rules.{rules}
 use Rattle.stream.proofs.begin.Goals as goal
 
 pub returns : goal.returns

@@ -1,6 +1,5 @@
 -- `stream::end_input` meets its contract. Assumes nothing.
 use borrow.Author.Tests.{eq-eqb, ne_eqb}
-use borrow.Author.Rules.{rules}
 use Rattle.stream.specs.Stream.{end_bytes}
 use Rattle.stream.proofs.Room.{put_nothing, written_nothing}
 use Rattle.stream.proofs.end_input.Goals as goal

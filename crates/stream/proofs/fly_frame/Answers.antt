@@ -1,10 +1,7 @@
 -- `stream::fly_frame` meets its contract. Assumes nothing.
-use native.Mathlib.Omega.{arith}
-use lib.ListN.{length-take}
 use Rattle.frame_telemetry.specs.TelemetryFrame.{read_telemetry}
 use Rattle.stream.specs.Stream.{answer_frame}
 use Rattle.stream.proofs.Frames.{kept}
-use borrow.Author.Rules.{rules}
 use Rattle.stream.proofs.fly_frame.Goals as goal
 
 pub returns-then-takes_areas : goal.returns-then-takes_areas

@@ -1,7 +1,6 @@
 -- `stream::fly_next` meets its contract. The laws of one frame are in Frames. Assumes nothing.
 use native.Mathlib.Omega.{arith}
 use Rattle.stream.proofs.Frames.{step_put, step_areas, step_left, step_progress}
-use borrow.Author.Rules.{rules}
 use Rattle.stream.proofs.fly_next.Goals as goal
 
 pub returns : goal.returns

@@ -1,12 +1,9 @@
 -- `stream::fly_within` meets its contract. The invariant: `n` is the next frame, what is behind the bytes put is as it was, the areas held fit their slice, and
 -- what is left to do makes the same whole. The measure is the count of turns. Assumes nothing.
-use Prim.Native.Nat.{◌+◌, ◌≤◌, zero-le}
 use native.Mathlib.Omega.{arith}
-use mathlib.Core.Path.{◌≡◌, refl, sym, ◌∙◌}
-use lib.ListN.{length, drop}
-use borrow.Author.Rules.{rules}
-use borrow.Author.Tests.{ltb-true, ltb-false}
-use Rattle.stream.specs.Stream.{next_of, progress, answer_frames, fly_frames}
+use mathlib.Core.Path.{sym, ◌∙◌}
+use lib.ListN.{length}
+use Rattle.stream.specs.Stream.{progress, fly_frames}
 use Rattle.stream.proofs.Frames.{room_next, drop-later, again, halts, spent, ends}
 use Rattle.stream.proofs.fly_within.Goals as goal
 

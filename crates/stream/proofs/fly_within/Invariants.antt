@@ -1,11 +1,7 @@
-use Prim.Native.Nat.{◌+◌, ◌≤◌, zero-le}
-use native.Mathlib.Omega.{arith}
-use mathlib.Core.Path.{◌≡◌, refl, sym, ◌∙◌}
+use Prim.Native.Nat.{◌+◌, ◌≤◌}
+use mathlib.Core.Path.{◌≡◌}
 use lib.ListN.{length, drop}
-use borrow.Author.Rules.{rules}
-use borrow.Author.Tests.{ltb-true, ltb-false}
-use Rattle.stream.specs.Stream.{next_of, progress, answer_frames, fly_frames}
-use Rattle.stream.proofs.Frames.{room_next, drop-later, again, halts, spent, ends}
+use Rattle.stream.specs.Stream.{next_of, progress, answer_frames}
 use Rattle.stream.proofs.fly_within.Given as goal
 
 abbrev pub invariant-loop-turns : goal.invariant-loop-turns

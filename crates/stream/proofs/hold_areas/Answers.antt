@@ -9,7 +9,6 @@ use Rattle.stream.specs.Stream.{after_areas}
 use Rattle.frame_areas.proofs.Most.{areas_most}
 use Rattle.stream.proofs.Room.{put_nothing, written_nothing}
 use Rattle.stream.proofs.Frames.{copied}
-use borrow.Author.Rules.{rules}
 use Rattle.stream.proofs.hold_areas.Goals as goal
 
 pub copy-requires : goal.copy-requires

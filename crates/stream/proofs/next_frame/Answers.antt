@@ -2,7 +2,6 @@
 use Prim.Native.Nat.{zero-le}
 use mathlib.Core.Path.{refl}
 use borrow.Author.Tests.{lt-ltb, le-ltb}
-use borrow.Author.Rules.{rules}
 use Rattle.stream.specs.Stream.{next_frame}
 use Rattle.stream.proofs.next_frame.Goals as goal
 

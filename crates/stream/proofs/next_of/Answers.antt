@@ -1,6 +1,5 @@
 -- `stream::next_of` meets its contract. Assumes nothing.
 use Rattle.stream.proofs.Frames.{next_of_lem, in_rest}
-use borrow.Author.Rules.{rules}
 use Rattle.stream.proofs.next_of.Goals as goal
 
 pub returns : goal.returns

@@ -1,6 +1,5 @@
 use Rattle.frame_decision.proofs.Size.{size as decision_size}
 use Rattle.stream.proofs.Room.{put_all, put_none}
-use borrow.Author.Rules.{rules}
 use Rattle.stream.proofs.put_decision.Goals as goal
 
 pub returns-then-write_decision-eq0 : goal.returns-then-write_decision-eq0

@@ -1,6 +1,5 @@
 use Rattle.frame_refusal.proofs.Size.{size as refusal_size}
 use Rattle.stream.proofs.Room.{put_all, put_none}
-use borrow.Author.Rules.{rules}
 use Rattle.stream.proofs.put_refusal.Goals as goal
 
 pub returns-then-write_refusal-eq0 : goal.returns-then-write_refusal-eq0

@@ -1,6 +1,5 @@
 -- `stream::refusal` meets its contract. Assumes nothing.
 use mathlib.Core.Path.{refl}
-use borrow.Author.Rules.{rules}
 use Rattle.stream.specs.Stream.{refusal}
 use Rattle.stream.proofs.refusal.Goals as goal
 

@@ -1,9 +1,6 @@
 -- `stream::set_up` meets its contract. Assumes nothing.
-use native.Mathlib.Omega.{arith}
 use mathlib.Core.Path.{refl}
-use lib.ListN.{length-take}
 use borrow.Author.Tests.{ne_eqb}
-use borrow.Author.Rules.{rules}
 use Rattle.stream.specs.Stream.{reply_setup}
 use Rattle.stream.proofs.Room.{put_nothing, written_nothing}
 use Rattle.stream.proofs.set_up.Goals as goal

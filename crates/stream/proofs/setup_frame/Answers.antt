@@ -1,7 +1,6 @@
 -- `stream::setup_frame` meets its contract. Assumes nothing.
 use Prim.Native.Nat.{zero-le}
 use mathlib.Core.Path.{refl}
-use borrow.Author.Rules.{rules}
 use Rattle.stream.specs.Stream.{setup_frame}
 use Rattle.stream.proofs.setup_frame.Goals as goal
 

@@ -1,6 +1,5 @@
 -- `stream::with_config` meets its contract. Assumes nothing.
 use Rattle.stream.specs.Stream.{with_config}
-use borrow.Author.Rules.{rules}
 use Rattle.stream.proofs.with_config.Goals as goal
 
 pub returns : goal.returns
