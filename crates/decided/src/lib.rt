@@ -2,6 +2,7 @@
 // their block. specs/Decided.antt says what is written for the whole input, specs/Program.antt that it doesn't matter how the input is
 // cut into blocks.
 #![tactic(auto)]
+
 ghost use Rattle.std.specs.Prelude.{◌≡◌, ◌≤◌, length};
 ghost use Rattle.std.proofs.Math.Seq.{slice};
 ghost use Rattle.wire.specs.Frame.{frame_written};

@@ -22,8 +22,7 @@ use Rattle.frame_wide.specs.WideState.{state_gaps, wide_state_frame}
 use Rattle.frame_wide_trips.proofs.Claim.{state_laws}
 use Rattle.calls.specs.Entry.{fresh_call}
 use borrow.Author.Rules.{rules}
-use Rattle.entries.proofs.fresh_wide.Statement.{statement}
-use Rattle.entries.proofs.fresh_wide.Tie as tie
+use Rattle.entries.proofs.fresh_wide.Goals as goal
 
 abbrev pieces : List Piece
 pieces = put 0 (frame_head 10 304) ∷ put 4 (replicate 302 0) ∷ []
@@ -32,31 +31,16 @@ flat : (l : List ℕ) → after l pieces ≡ sets l 0 (wide_state_frame fresh_su
 unfolding wide_state_frame widened state_gaps listed instants_of state_frame fresh_supervisor fresh_triggers frame_head le_triggers le_links le_fence le_battery le_input le_timer le_arbiter le_action le_reason le_option_u32 le_option_position le_vec3 le_f32 le8 le16 le32 le_bytes le_flag to_bits of_bits u8_at
 flat l = refl
 
-returns : tie.Need-returns
+pub returns-then-state-lt306 : goal.returns-then-state-lt306
 unfolding fresh_call
-returns c = no_room (wide_state_frame fresh_supervisor) c.before.before.args.state.now 306 (state_laws.size fresh_supervisor) c.if1.true
+returns-then-state-lt306 c =
+    let n = no_room (wide_state_frame fresh_supervisor) c.args.state.now 306 (state_laws.size fresh_supervisor) c.if-state-lt306.true in
+    record { value = n.0; state_after = n.1 }
 
-put_head_requires : tie.Need-put-head-requires
-put_head_requires c κs = search rules
-
-put_zeros_requires : tie.Need-put-zeros-requires
-put_zeros_requires c κs = search rules
-
-same_length : tie.Need-same-length
-same_length c = search rules
-
-returns_2 : tie.Need-returns-2
+pub returns : goal.returns
 unfolding fresh_call
-returns_2 c =
-    let p2 = c.before.before in
-    let p1 = p2.before.before.before.before in
-    let a = p1.before.before.before.before.args in
+returns c =
+    let a = c.args in
     let l = a.state.now in
-    let r = room (wide_state_frame fresh_supervisor) l 306 (state_laws.size fresh_supervisor) (let e = p1.before.before.if1.false in omega arith) in (
-      r.0,
-      ran l pieces _ (into p1.put-head.ensures (into p2.put-zeros.ensures done)) ∙ flat l ∙ r.1,
-    )
-
-pub fresh_wide_spec : {M : Type 1} → statement M
-fresh_wide_spec =
-    tie.close (tie.spec returns put_head_requires put_zeros_requires same_length returns_2)
+    let r = room (wide_state_frame fresh_supervisor) l 306 (state_laws.size fresh_supervisor) (let e = c.if-state-lt306.false in omega arith) in
+    record { value = r.0; state_after = ran l pieces _ (into c.put_head.ensures (into c.put_zeros.ensures done)) ∙ flat l ∙ r.1 }

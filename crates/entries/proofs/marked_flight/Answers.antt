@@ -1,0 +1,6 @@
+use mathlib.Core.Path.{refl}
+use borrow.Author.Rules.{rules}
+use Rattle.entries.proofs.marked_flight.Goals as goal
+
+pub returns : goal.returns
+returns c = rw c.mark_config.ensures refl
