@@ -3,16 +3,16 @@
 // which says what is written for the whole input; here is input and output in blocks. No contract can say what is read or written:
 // these functions say where a turn leaves the program, whatever it read.
 #![tactic(auto)]
+
 ghost use Rattle.std.specs.Prelude.{true, ◌++◌, ◌≡◌, ◌≤◌, length, take, drop, ltb};
 ghost use Rattle.std.proofs.Math.Seq.{slice};
 ghost use Rattle.decided.specs.Program.{pending, next, newly};
 
+use decided::Kept;
 use std::alloc::Alloc;
 use std::env;
 use std::env::Env;
 use std::io::{Eprint, Print, Read};
-
-use decided::Kept;
 use stream::Session;
 
 // Writes the first bytes of the output block out; false where there are not so many, or where the write fails.
@@ -132,7 +132,9 @@ fn has_words<R: Env + Alloc>(rt: &R) -> bool {
 
 fn main(rt: HostRuntime) {
     if has_words(&rt) {
-        let _told = eprintln!(rt; "usage: decide, without a word: it reads frames of kinds 1 or 11, 2 or 8, 13 and 3 from standard input").is_ok();
+        let _told = eprintln!(rt;
+            "usage: decide, without a word: it reads frames of kinds 1 or 11, 2 or 8, 13 and 3 from standard input"
+        ).is_ok();
         return;
     }
     let mut reader = rt.stdin();

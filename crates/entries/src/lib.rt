@@ -1,5 +1,6 @@
 // The one step behind every C entry, and the fresh state: number and buffers for all bytes. The entries themselves are in `failsafe`.
 #![tactic(auto)]
+
 ghost use Rattle.std.specs.Prelude.{◌≡◌, false, not, ◌&&◌, ◌++◌, ◌+◌, ◌≤◌, eqb, length, drop, replicate};
 ghost use Rattle.flight.specs.Flight.{or_refused, read_flight, step_flight};
 ghost use Rattle.frame_areas.specs.AreasFrame.{areas_fault};

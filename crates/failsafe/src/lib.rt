@@ -1,5 +1,6 @@
 // The entries for the autopilot's C host: include/failsafe.h describes them. Each calls one function of a library that has its logic.
 #![tactic(auto)]
+
 ghost use Rattle.std.specs.Prelude.{true, false, [], ◌≡◌};
 ghost use Rattle.flight.specs.Flight.{read_flight};
 ghost use Rattle.calls.specs.Form.{base, wide};

@@ -6,7 +6,6 @@ ghost use Rattle.std.specs.Prelude.{◌≡◌};
 ghost use Rattle.mixture.specs.Mixtures.{ends_in};
 
 use std::io::Print;
-
 use types::Action;
 
 // Writes a line, name, one space and count, and answers the count, also where the write fails.

@@ -1,9 +1,7 @@
-use Prim.Native.Nat.{◌≤◌, zero-le}
+use Prim.Native.Nat.{◌≤◌}
 use mathlib.Core.Path.{◌≡◌}
 use lib.ListN.{length}
-use borrow.Author.Rules.{rules}
 use Rattle.decided.specs.Program.{pending, Turns}
-use Rattle.decided.proofs.Rest.{at_start, one_more}
 use Rattle.decide.proofs.decide.Given as goal
 
 abbrev pub invariant-loop-turns : goal.invariant-loop-turns

@@ -1,13 +1,11 @@
 -- `decide::read_on` meets its contract. Assumes nothing.
 use Prim.Native.Nat.{ℕ, zero-le}
 use native.Mathlib.Omega.{arith}
-use mathlib.Core.Logic.{⊎_elim}
 use mathlib.Core.Path.{refl, ap}
 use lib.Dec.{ltb}
 use lib.ListN.{length}
-use Rattle.decided.proofs.Moved.{slice_length, moved_length}
+use Rattle.decided.proofs.Moved.{moved_length}
 use Rattle.decided.proofs.Rest.{behind}
-use borrow.Author.Rules.{rules}
 use Rattle.decide.proofs.read_on.Goals as goal
 
 pub returns : goal.returns

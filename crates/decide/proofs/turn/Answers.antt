@@ -6,7 +6,6 @@ use mathlib.Core.Path.{refl}
 use lib.ListN.{length}
 use borrow.Rule.Slice.PartMut.{mid_len}
 use Rattle.decided.proofs.Rest.{lent, turned_read, turned_taken}
-use borrow.Author.Rules.{rules}
 use Rattle.decide.proofs.turn.Goals as goal
 
 pub returns-then-taken-eq0 : goal.returns-then-taken-eq0

@@ -12,7 +12,6 @@ use Rattle.frame_wide.specs.WideState.{state_gaps, wide_state_frame}
 use Rattle.frame_wide_trips.proofs.Claim.{state_laws}
 use Rattle.carry.specs.Carry.{widened}
 use Rattle.entries.proofs.Carried.{carry_refused, carry_taken, carried_image, old_head, old_bytes}
-use borrow.Author.Rules.{rules}
 use Rattle.entries.proofs.carry_over.Goals as goal
 
 pub returns-then-refused-ne0 : goal.returns-then-refused-ne0

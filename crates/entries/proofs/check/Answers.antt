@@ -7,7 +7,6 @@ use borrow.Author.Tests.{eqb-true}
 use Rattle.flight.specs.Flight.{or_refused, read_flight}
 use Rattle.frame_areas.proofs.None.{none_refused}
 use Rattle.calls.specs.Entry.{step_or_check}
-use borrow.Author.Rules.{rules}
 use Rattle.entries.proofs.check.Goals as goal
 
 -- no refusal beside another is that one

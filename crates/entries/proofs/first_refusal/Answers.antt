@@ -1,7 +1,6 @@
 -- `entries::first_refusal` meets its contract. Assumes nothing.
 use borrow.Author.Tests.{eq-eqb, ne_eqb}
 use Rattle.frame_areas.proofs.None.{no_byte_refused}
-use borrow.Author.Rules.{rules}
 use Rattle.entries.proofs.first_refusal.Goals as goal
 
 pub returns-then-refused-ne0 : goal.returns-then-refused-ne0

@@ -1,6 +1,5 @@
 -- `entries::fresh` meets its contract. Assumes nothing.
 use Rattle.calls.specs.Entry.{fresh_call}
-use borrow.Author.Rules.{rules}
 use Rattle.entries.proofs.fresh.Goals as goal
 
 pub returns : goal.returns

@@ -21,7 +21,6 @@ use Rattle.supervisor.specs.Step.{fresh_supervisor}
 use Rattle.frame_wide.specs.WideState.{state_gaps, wide_state_frame}
 use Rattle.frame_wide_trips.proofs.Claim.{state_laws}
 use Rattle.calls.specs.Entry.{fresh_call}
-use borrow.Author.Rules.{rules}
 use Rattle.entries.proofs.fresh_wide.Goals as goal
 
 abbrev pieces : List Piece

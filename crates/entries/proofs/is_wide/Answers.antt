@@ -1,5 +1,4 @@
 use mathlib.Core.Path.{refl}
-use borrow.Author.Rules.{rules}
 use Rattle.entries.proofs.is_wide.Goals as goal
 
 pub returns-then-keeps : goal.returns-then-keeps

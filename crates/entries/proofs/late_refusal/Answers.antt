@@ -2,7 +2,6 @@ use mathlib.Core.Path.{refl}
 use borrow.Author.Tests.{eq-eqb, ne_eqb}
 use Rattle.wire.proofs.Head.{head_says}
 use Rattle.entries.proofs.Judged.{low_head}
-use borrow.Author.Rules.{rules}
 use Rattle.entries.proofs.late_refusal.Goals as goal
 
 pub state_on-low-requires : goal.state_on-low-requires

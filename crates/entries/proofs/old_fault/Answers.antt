@@ -7,7 +7,6 @@ use Rattle.wire.specs.Frame.{frame_fault}
 use Rattle.calls.specs.Entry.{flight_keeps}
 use Rattle.calls.specs.Marked.{refusal_of}
 use Rattle.entries.proofs.Carried.{default_keeps, copied}
-use borrow.Author.Rules.{rules}
 use Rattle.entries.proofs.old_fault.Goals as goal
 
 pub returns-then-fault-ne0 : goal.returns-then-fault-ne0

@@ -1,7 +1,6 @@
 use mathlib.Core.Path.{◌∙◌}
 use Rattle.calls.specs.Entry.{flight_keeps}
 use Rattle.entries.proofs.Judged.{judged_same, judged_accepted, judged_refused}
-use borrow.Author.Rules.{rules}
 use Rattle.entries.proofs.state_fault.Goals as goal
 
 pub returns-then-n-eq1 : goal.returns-then-n-eq1

@@ -1,6 +1,5 @@
 -- `entries::step_any` meets its contract. Assumes nothing.
 use Rattle.calls.specs.Entry.{step_or_check}
-use borrow.Author.Rules.{rules}
 use Rattle.entries.proofs.step_any.Goals as goal
 
 pub returns : goal.returns

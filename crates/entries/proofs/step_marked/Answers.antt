@@ -3,7 +3,6 @@ use lib.ListN.{length}
 use Rattle.calls.specs.Entry.{flight_keeps}
 use Rattle.wire.proofs.Head.{head_says}
 use Rattle.entries.proofs.Finish.{Had, same_number, same_output, stepped_state, kept_state, left_long, low_long, listed_thirty, keeps_marked}
-use borrow.Author.Rules.{rules}
 use Rattle.entries.proofs.step_marked.Goals as goal
 
 pub state_on-low-requires : goal.state_on-low-requires

@@ -14,7 +14,6 @@ use Rattle.flight.specs.Flight.{or_refused, accept_flight, refused_flight, read_
 use Rattle.flight.proofs.Read.{config_refused, fence_refused, flight_read}
 use Rattle.calls.specs.Form.{form_of}
 use Rattle.calls.specs.Entry.{StepCall, declined, step_any, step_or_check}
-use borrow.Author.Rules.{rules}
 use Rattle.entries.proofs.step_or_check.Goals as goal
 use Rattle.entries.proofs.step_or_check.Goals.{After-accept_frame-flight, After-first_refusal-refused}
 

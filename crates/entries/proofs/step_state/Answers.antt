@@ -1,7 +1,6 @@
 -- `entries::step_state` meets its contract. Assumes nothing.
 use mathlib.Core.Path.{refl, sym, ◌∙◌}
 use Rattle.entries.proofs.Buffers.{state_bytes_lem}
-use borrow.Author.Rules.{rules}
 use Rattle.entries.proofs.step_state.Goals as goal
 
 pub step_telemetry-requires : goal.step_telemetry-requires

@@ -1,7 +1,6 @@
 -- `entries::step_telemetry` meets its contract. Assumes nothing.
 use mathlib.Core.Path.{refl}
 use Rattle.flight.specs.Flight.{step_flight}
-use borrow.Author.Rules.{rules}
 use Rattle.entries.proofs.step_telemetry.Goals as goal
 
 pub returns-in-Refused : goal.returns-in-Refused

@@ -9,7 +9,6 @@ use Rattle.flight.specs.Flight.{or_refused}
 use Rattle.frame_state.specs.StateFrame.{read_state}
 use Rattle.calls.specs.Marked.{refusal_of}
 use Rattle.entries.proofs.Judged.{late_call}
-use borrow.Author.Rules.{rules}
 use Rattle.entries.proofs.step_wide.Goals as goal
 
 pub returns-then-fault-ne0 : goal.returns-then-fault-ne0

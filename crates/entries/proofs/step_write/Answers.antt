@@ -4,7 +4,6 @@ use mathlib.Core.Path.{refl, ◌∙◌, subst}
 use lib.ListN.{length}
 use borrow.Author.Tests.{le-ltb, lt-ltb}
 use Rattle.entries.proofs.Buffers.{state_written}
-use borrow.Author.Rules.{rules}
 use Rattle.entries.proofs.step_write.Goals as goal
 
 pub returns-then-output-output_size : goal.returns-then-output-output_size

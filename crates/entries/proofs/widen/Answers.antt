@@ -1,6 +1,5 @@
 use mathlib.Core.Path.{refl, ◌∙◌}
 use Rattle.entries.proofs.Carried.{old_refused}
-use borrow.Author.Rules.{rules}
 use Rattle.entries.proofs.widen.Goals as goal
 
 pub returns-then-fault-ne0 : goal.returns-then-fault-ne0

@@ -1,7 +1,6 @@
 use native.Mathlib.Nat.{le_of_eq}
 use mathlib.Core.List.{append-nil}
 use lib.ListN.{drop_of_length-le}
-use borrow.Author.Rules.{rules}
 use Rattle.entries.proofs.widen_after.Goals as goal
 
 pub returns : goal.returns

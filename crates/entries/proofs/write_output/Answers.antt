@@ -13,7 +13,6 @@ use Rattle.frame_side.proofs.Size.{size as side_size}
 use Rattle.frame_side.proofs.Written.{side_written}
 use Rattle.calls.specs.Entry.{output_size}
 use Rattle.entries.proofs.Buffers.{frame_written_lem}
-use borrow.Author.Rules.{rules}
 use Rattle.entries.proofs.write_output.Goals as goal
 
 pub returns-then-with_side : goal.returns-then-with_side
