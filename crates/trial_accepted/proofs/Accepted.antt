@@ -255,4 +255,4 @@ in_order seed (o ∷ os) h r =
     ∙ ap (λ (k : Generator). (next_frame k).generator) (in_order seed os h r.1)
 
 pub frames_accepted : FramesAccepted
-frames_accepted = record { one_call = one_call; answered = answered; in_order = in_order }
+frames_accepted = record { one_call = one_call; answered = λ seed os o room. answered seed os o room; in_order = in_order }
