@@ -36,11 +36,11 @@
  *
  * Stack of a call on x86-64, the most that tests/stack measures on the sample flight beside eight areas, rounded up to a multiple
  * of 64 (a build for another processor differs):
- *   failsafe_step        3584 bytes
- *   failsafe_step_side   3584 bytes
- *   failsafe_step_areas  3584 bytes
- *   any of these on a state of kind 10 5888 bytes
- *   failsafe_add_area    896 bytes
+ *   failsafe_step        3712 bytes
+ *   failsafe_step_side   3712 bytes
+ *   failsafe_step_areas  3712 bytes
+ *   any of these on a state of kind 10 6144 bytes
+ *   failsafe_add_area    960 bytes
  *   failsafe_remove_area 896 bytes
  *
  * Frames

@@ -9,6 +9,8 @@ pub fn copy(from: &[u8], to: &mut [u8]) -> usize
     ensures { (result ≡ length from.now) × (to.new ≡ take (length from.now) from.now ++ drop (length from.now) to.old) }
 {
     let n = from.len();
-    to[..n].copy_from_slice(from);
+    for i in 0..n {
+        to[i] = from[i];
+    }
     n
 }
