@@ -10,7 +10,7 @@ cd "$top" || exit 1
 build=$top/build/entries
 mkdir -p "$build"
 
-if ! grep -q '^failsafe:' crates.txt; then
+if ! grep -qE '^failsafe( staticlib)?:' crates.txt; then
     echo "skipped: crates.txt does not list the crate failsafe"
     exit 0
 fi
