@@ -9,7 +9,7 @@ abbrev pub before : List ℕ
 before = 7 ∷ 7 ∷ 7 ∷ 7 ∷ 7 ∷ 7 ∷ []
 
 -- one millimetre north and one east of home, at the height to fly back at and to come down from: a cruise leg alone. The whole root of 2 leaves 1, so the distance is 2 mm,
--- and with 1000 m_w, wind 1 and 1 mm/s the leg gives 2 · 1000 · 1000 over 1 · 1000, without a remainder.
+-- and with 1000 mW, wind 1 and 1 mm/s the leg gives 2 · 1000 · 1000 over 1 · 1000, without a remainder.
 abbrev pub near_home : Return
 near_home =
     record {

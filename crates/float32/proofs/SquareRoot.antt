@@ -1,4 +1,4 @@
--- `square_root` is square_root of IEEE 754-2019, for every binary32 value: the theorem for a finite number above zero, then each other case, then three instances. Assumes nothing.
+-- `square_root` is squareRoot of IEEE 754-2019, for every binary32 value: the theorem for a finite number above zero, then each other case, then three instances. Assumes nothing.
 use mathlib.Core.Path.{◌≡◌, refl, sym, ap, subst, ◌∙◌}
 use mathlib.Core.Bool.{true, false, true≢false}
 use Prim.Native.Nat.{ℕ, zero, suc, ◌+◌, ◌*◌, ◌^◌, ◌<◌}

@@ -1,6 +1,6 @@
 -- The square root. Document 01, 'What changes shape': "the square root is the binary32 number nearest to the exact root, decided by comparing squares of whole numbers. ..
 -- −0 gives −0, +infinity itself, a negative number or NaN gives NaN." (The sentence left out is on the way there: `subnormal_root` in the code.)
--- This is square_root of IEEE 754-2019 under round_ties_to_even. No exact root lies in the middle of two binary32 numbers, so the rule for ties is never asked.
+-- This is squareRoot of IEEE 754-2019 under roundTiesToEven. No exact root lies in the middle of two binary32 numbers, so the rule for ties is never asked.
 -- `Nearest.antt` beside this says what nearest is, and proofs/SquareRoot.antt shows that `square_root` is that number. Assumes nothing.
 use Rattle.std.specs.Prelude.{ℕ, zero, suc, ◌+◌, ◌*◌, ◌/◌, ◌^◌, true, false, cond, leb, Float}
 use Rattle.std.specs.Float.{nan, inf, fin, binary32}

@@ -1,5 +1,4 @@
-// Kinds 7 and 13: keep-out areas in their frames, judged, and the clearance from them. Areas stay bytes: there is no slice of structs,
-// and the host holds bytes anyway.
+// Kinds 7 and 13: keep-out areas in their frames, judged, and the clearance from them. Areas stay bytes, since the host holds bytes.
 #![tactic(auto)]
 
 ghost use Rattle.std.specs.Prelude.{true, ◌≡◌, length, drop};
