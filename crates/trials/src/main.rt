@@ -3,7 +3,9 @@
 // crate `trial`; what is proved here is that the functions are safe and end.
 #![tactic(auto)]
 
-ghost use Rattle.std.specs.Prelude.{min, ◌≡◌};
+ghost use Rattle.std.specs.Prelude.{min, ◌≡◌, length, nat_le, if◌then◌else◌, MatchOption, string_bytes};
+ghost use Rattle.types.specs.declared.OptionU32.{OptionU32};
+ghost use Rattle.trial.specs.Decimal.{read_decimal};
 
 use std::env;
 use std::io::{Eprint, Print};
@@ -20,7 +22,10 @@ fn block_frames(left: usize) -> usize
 }
 
 // An argument that is missing or longer than 32 bytes is no number.
-fn argument(text: Option<String>) -> OptionU32 {
+fn argument(text: Option<String>) -> OptionU32
+    ensures { MatchOption text (result ≡ OptionU32.None)
+        (λ s. result ≡ (if nat_le (length (string_bytes s)) 32 then read_decimal (string_bytes s) else OptionU32.None)) }
+{
     match text {
         Some(word) => {
             if word.len() <= 32 {
