@@ -1,4 +1,5 @@
 -- Both clocks, step by step: where ages stay under 2^31 they agree. Assumes nothing.
+use Rattle.std.specs.Prelude.{Option, Some, None}
 use Prim.Native.Nat.{ℕ, ◌+◌, ◌-◌, ◌%◌, ◌^◌, ◌≤◌, ◌<◌}
 use mathlib.Core.Path.{◌≡◌, refl, ap, ap₂, ◌∙◌}
 use mathlib.Core.Bool.{true}
@@ -6,7 +7,6 @@ use mathlib.Core.List.{List, [], ◌∷◌}
 use native.Mathlib.Omega.{arith}
 use borrow.Author.Tests.{le-ltb, lt-ltb}
 use lib.Dec.{leb, ltb}
-use Rattle.types.specs.declared.OptionU32.{OptionU32}
 use Rattle.types.specs.declared.Telemetry.{Telemetry}
 use Rattle.time.specs.Time.{wrapping, plain, wrapping_sub, age, at_most, at_least, fresh, hold_met}
 use Rattle.config.specs.declared.Config.{Config}
@@ -34,27 +34,27 @@ same_age now1 now2 x y n e l h =
     rw (le-ltb now2 x l, difference now1 now2 x y n e l h, b)
 
 module _ (now1 now2 : ℕ) (reading : now2 % 2 ^ 32 ≡ now1) where
-  hold_alike : (x hold : ℕ) (o : OptionU32) → LowHalf x o → Young now2 x o → HoldAlike wrapping plain now1 now2 x o hold hold
+  hold_alike : (x hold : ℕ) (o : Option ℕ) → LowHalf x o → Young now2 x o → HoldAlike wrapping plain now1 now2 x o hold hold
   unfolding hold_met
-  hold_alike x hold OptionU32.None low young = ap (λ a. at_least a hold) (same_age now1 now2 now2 now1 reading reading (omega arith) (omega arith))
-  hold_alike x hold (OptionU32.Some y) low young = ap (λ a. at_least a hold) (same_age now1 now2 x y reading low young.0 young.1)
+  hold_alike x hold None low young = ap (λ a. at_least a hold) (same_age now1 now2 now2 now1 reading reading (omega arith) (omega arith))
+  hold_alike x hold (Some y) low young = ap (λ a. at_least a hold) (same_age now1 now2 x y reading low young.0 young.1)
 
-  fresh_alike : (x limit : ℕ) (o : OptionU32) → LowHalf x o → Young now2 x o → FreshAlike wrapping plain now1 now2 x o limit limit
+  fresh_alike : (x limit : ℕ) (o : Option ℕ) → LowHalf x o → Young now2 x o → FreshAlike wrapping plain now1 now2 x o limit limit
   unfolding fresh
-  fresh_alike x limit OptionU32.None low young = refl
-  fresh_alike x limit (OptionU32.Some y) low young = ap (λ a. at_most a limit) (same_age now1 now2 x y reading low young.0 young.1)
+  fresh_alike x limit None low young = refl
+  fresh_alike x limit (Some y) low young = ap (λ a. at_most a limit) (same_age now1 now2 x y reading low young.0 young.1)
 
-  gap_alike : (x : ℕ) (o : OptionU32) → LowHalf x o → Young now2 x o → gap_now plain now2 (instead x o) ≡ gap_now wrapping now1 o
-  gap_alike x OptionU32.None low young = refl
-  gap_alike x (OptionU32.Some y) low young = ap up_to2000 (same_age now1 now2 x y reading low young.0 young.1)
+  gap_alike : (x : ℕ) (o : Option ℕ) → LowHalf x o → Young now2 x o → gap_now plain now2 (instead x o) ≡ gap_now wrapping now1 o
+  gap_alike x None low young = refl
+  gap_alike x (Some y) low young = ap up_to2000 (same_age now1 now2 x y reading low young.0 young.1)
 
-  sound_alike : (x : ℕ) (o : OptionU32) → LowHalf x o → Young now2 x o → sound_now plain now2 (instead x o) ≡ sound_now wrapping now1 o
-  sound_alike x OptionU32.None low young = refl
-  sound_alike x (OptionU32.Some y) low young = ap started (same_age now1 now2 x y reading low young.0 young.1)
+  sound_alike : (x : ℕ) (o : Option ℕ) → LowHalf x o → Young now2 x o → sound_now plain now2 (instead x o) ≡ sound_now wrapping now1 o
+  sound_alike x None low young = refl
+  sound_alike x (Some y) low young = ap started (same_age now1 now2 x y reading low young.0 young.1)
 
-  link_alike : (x : ℕ) (o : OptionU32) → LowHalf x o → Young now2 x o → gcs_age plain now2 (instead x o) ≡ gcs_age wrapping now1 o
-  link_alike x OptionU32.None low young = refl
-  link_alike x (OptionU32.Some y) low young = ap age_or_most (same_age now1 now2 x y reading low young.0 young.1)
+  link_alike : (x : ℕ) (o : Option ℕ) → LowHalf x o → Young now2 x o → gcs_age plain now2 (instead x o) ≡ gcs_age wrapping now1 o
+  link_alike x None low young = refl
+  link_alike x (Some y) low young = ap age_or_most (same_age now1 now2 x y reading low young.0 young.1)
 
   module _ (cfg : Config) where
     state_alike : (s : Supervisor) (i : Instants) → OfState LowHalf s i → OfState (Young now2) s i → StateAlike wrapping plain cfg cfg now1 now2 s i
@@ -121,9 +121,9 @@ low_of : (T last x y : ℕ) → T % 2 ^ 32 ≡ last → y < 2 ^ 32 → wrapping_
 unfolding wrapping_sub
 low_of T last x y t h l e = omega arith
 
-low_carried : (T last x : ℕ) (o : OptionU32) → T % 2 ^ 32 ≡ last → CarriedOver T last x o → LowHalf x o
-low_carried T last x OptionU32.None t c = tt
-low_carried T last x (OptionU32.Some y) t c = low_of T last x y t c.0 c.1 c.2
+low_carried : (T last x : ℕ) (o : Option ℕ) → T % 2 ^ 32 ≡ last → CarriedOver T last x o → LowHalf x o
+low_carried T last x None t c = tt
+low_carried T last x (Some y) t c = low_of T last x y t c.0 c.1 c.2
 
 pub carried : CarriedClaim
 carried T last s i t c =

@@ -1,14 +1,11 @@
 -- The nine families under another clock: each makes the same of its readings, and its timers are kept, started or cleared alike. Assumes nothing.
+use Rattle.std.specs.Prelude.{Option, Some, None}
 use Prim.Native.Nat.{ℕ}
 use mathlib.Core.Path.{◌≡◌, refl, ap, ap₂, ◌∙◌}
 use mathlib.Core.Bool.{Bool, true, false, not, ◌&&◌, ◌||◌, cond}
 use lib.Dec.{leb, ltb}
 use lib.Ieee.{Float, binary32, sub, lt}
 use Rattle.float32.specs.Binary32.{zero_f}
-use Rattle.types.specs.declared.OptionAction.{OptionAction}
-use Rattle.types.specs.declared.OptionU32.{OptionU32}
-use Rattle.types.specs.declared.OptionF32.{OptionF32}
-use Rattle.types.specs.declared.OptionGpsSample.{OptionGpsSample}
 use Rattle.time.specs.Time.{Clock}
 use Rattle.config.specs.declared.Config.{Config}
 use Rattle.validate.specs.Fresh.{fresh_gps}
@@ -19,7 +16,6 @@ use Rattle.triggers.specs.declared.RcLink.{RcLink}
 use Rattle.triggers.specs.declared.GpsHeld.{GpsHeld}
 use Rattle.timers.specs.declared.Held.{Held}
 use Rattle.triggers.specs.declared.Place.{Place}
-use Rattle.triggers.specs.declared.OptionPlace.{OptionPlace}
 use Rattle.triggers.specs.declared.FenceHeld.{FenceHeld}
 use Rattle.triggers.specs.declared.StaleBattery.{StaleBattery}
 use Rattle.triggers.specs.declared.BatteryHeld.{BatteryHeld}
@@ -34,6 +30,7 @@ use Rattle.alike.specs.Alike.{HoldAlike, FreshAlike}
 use Rattle.alike.proofs.Choices.{choose}
 use Rattle.alike.proofs.Timers.{held_at, pair_at, started_instead, rests, held}
 use Rattle.alike.proofs.Fresh.{gps_alike, degraded_at, recovered_at, fixed_at}
+use Rattle.types.specs.declared.GpsSample.{GpsSample}
 
 -- ---- what the families made of a step, at other instants
 
@@ -144,10 +141,10 @@ module _
     unfolding gcs_clearing
     clearing_law stage =
         let p = timer gcs_clear {b = true} refl in
-        λ k. record { clear_timer = (p k).timer; stage = cond (p k).met 0 stage; request = cond (p k).met OptionAction.None (stage_request stage) }
+        λ k. record { clear_timer = (p k).timer; stage = cond (p k).met 0 stage; request = cond (p k).met None (stage_request stage) }
 
     pub gcs_law :
-        (x stage : ℕ) (hb : OptionU32)
+        (x stage : ℕ) (hb : Option ℕ)
         → ltb d.gcs_rtl_ms (gcs_age c2 now2 (instead x hb)) ≡ ltb cfg.gcs_rtl_ms (gcs_age c1 now1 hb)
         → ltb d.gcs_hold_ms (gcs_age c2 now2 (instead x hb)) ≡ ltb cfg.gcs_hold_ms (gcs_age c1 now1 hb)
         → ltb d.gcs_warn_ms (gcs_age c2 now2 (instead x hb)) ≡ ltb cfg.gcs_warn_ms (gcs_age c1 now1 hb)
@@ -168,7 +165,7 @@ module _
         λ k. record { set = (p k).timer; clear = clears k; lost = lost k; met = (p k).met }
 
     -- ---- satellite positioning, the estimator
-    pub gps_law : (x : ℕ) (sample : OptionGpsSample) → FreshAlike c1 c2 now1 now2 x (gps_stamp sample) cfg.gps_fresh_ms d.gps_fresh_ms → gps c2 (triggers_at i s) now2 (gps_at x sample) other ≡ gps_held_at after (gps c1 s now1 sample cfg)
+    pub gps_law : (x : ℕ) (sample : Option GpsSample) → FreshAlike c1 c2 now1 now2 x (gps_stamp sample) cfg.gps_fresh_ms d.gps_fresh_ms → gps c2 (triggers_at i s) now2 (gps_at x sample) other ≡ gps_held_at after (gps c1 s now1 sample cfg)
     unfolding gps durations_of triggers_at
     gps_law x sample e =
         let g = fresh_gps c1 now1 sample cfg.gps_fresh_ms in
@@ -197,16 +194,16 @@ module _
     unfolding altitude_min durations_of
     min_law p flying min_alt = pair alt_min_set alt_min_clear refl refl
 
-    pub fence_law : (place : OptionPlace) (flying : Bool) (min_alt max_alt : Float) → fence c2 (triggers_at i s) now2 place flying min_alt max_alt other ≡ fence_at after (fence c1 s now1 place flying min_alt max_alt cfg)
+    pub fence_law : (place : Option Place) (flying : Bool) (min_alt max_alt : Float) → fence c2 (triggers_at i s) now2 place flying min_alt max_alt other ≡ fence_at after (fence c1 s now1 place flying min_alt max_alt cfg)
     unfolding fence fence_approach durations_of triggers_at
-    fence_law OptionPlace.None flying min_alt max_alt =
+    fence_law None flying min_alt max_alt =
         λ k. record {
           approach = false;
           breach = rest breach_set breach_clear k;
           alt_max = rest alt_max_set alt_max_clear k;
           alt_min = rest alt_min_set alt_min_clear k;
         }
-    fence_law (OptionPlace.Some p) flying min_alt max_alt =
+    fence_law (Some p) flying min_alt max_alt =
         λ k. record {
           approach = fence_approach p.fence.m cfg;
           breach = breach_law p.fence.m k;
@@ -215,7 +212,7 @@ module _
         }
 
     -- ---- the battery, the energy
-    pub stale_law : (percent volts : OptionF32) → stale_battery c2 (at stale_clear) now2 percent volts d.stale_battery_clear_ms ≡ stale_at after (stale_battery c1 s.stale_bat_clear now1 percent volts cfg.stale_battery_clear_ms)
+    pub stale_law : (percent volts : Option Float) → stale_battery c2 (at stale_clear) now2 percent volts d.stale_battery_clear_ms ≡ stale_at after (stale_battery c1 s.stale_bat_clear now1 percent volts cfg.stale_battery_clear_ms)
     unfolding stale_battery
     stale_law percent volts =
         let p = timer stale_clear {b = true} refl in
@@ -231,14 +228,14 @@ module _
     unfolding battery_low durations_of
     low_law p = pair low_set low_clear refl refl
 
-    critical_law : (p : Float) (volts : OptionF32) → battery_critical c2 (at crit_set) now2 p volts other ≡ held_at (after crit_set) (battery_critical c1 s.bat_crit_set now1 p volts cfg)
+    critical_law : (p : Float) (volts : Option Float) → battery_critical c2 (at crit_set) now2 p volts other ≡ held_at (after crit_set) (battery_critical c1 s.bat_crit_set now1 p volts cfg)
     unfolding battery_critical durations_of
-    critical_law p OptionF32.None = timer crit_set refl
-    critical_law p (OptionF32.Some v) = timer crit_set refl
+    critical_law p None = timer crit_set refl
+    critical_law p (Some v) = timer crit_set refl
 
-    pub battery_law : (percent volts : OptionF32) → battery c2 (triggers_at i s) now2 percent volts other ≡ battery_at after (battery c1 s now1 percent volts cfg)
+    pub battery_law : (percent volts : Option Float) → battery c2 (triggers_at i s) now2 percent volts other ≡ battery_at after (battery c1 s now1 percent volts cfg)
     unfolding battery triggers_at
-    battery_law OptionF32.None volts =
+    battery_law None volts =
         λ k. record {
           warn = rest warn_set warn_clear k;
           low = rest low_set low_clear k;
@@ -246,7 +243,7 @@ module _
           latched = s.battery_critical_latched;
           critical = false;
         }
-    battery_law (OptionF32.Some p) volts =
+    battery_law (Some p) volts =
         let h = critical_law p volts in
         λ k. record {
           warn = warn_law p k;
@@ -260,16 +257,16 @@ module _
     unfolding energy_marginal durations_of
     marginal_law m = pair marg_set marg_clear refl refl
 
-    pub energy_law : (margin : OptionF32) → energy c2 (triggers_at i s) now2 margin other ≡ energy_held_at after (energy c1 s now1 margin cfg)
+    pub energy_law : (margin : Option Float) → energy c2 (triggers_at i s) now2 margin other ≡ energy_held_at after (energy c1 s now1 margin cfg)
     unfolding energy durations_of triggers_at
-    energy_law OptionF32.None =
+    energy_law None =
         λ k. record {
           marginal = rest marg_set marg_clear k;
           infeas_set = rests now2 (i infeas_set) s.energy_infeas_set k;
           latched = s.energy_infeasible_latched;
           infeasible = false;
         }
-    energy_law (OptionF32.Some m) =
+    energy_law (Some m) =
         let h = timer infeas_set {b = lt m zero_f} refl in
         λ k. record {
           marginal = marginal_law m k;

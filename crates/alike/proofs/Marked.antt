@@ -1,12 +1,7 @@
 -- The 64-bit step on the 32-bit code: `rows_step` at a state's own instants and telemetry's own stamps. Assumes nothing.
+use Rattle.std.specs.Prelude.{Option, Some, None, Float, Bool}
 use Prim.Native.Nat.{ℕ}
 use mathlib.Core.Path.{◌≡◌, refl, ap, sym, ◌∙◌}
-use Rattle.types.specs.declared.OptionU32.{OptionU32}
-use Rattle.types.specs.declared.OptionStampedF32.{OptionStampedF32}
-use Rattle.types.specs.declared.OptionStampedBool.{OptionStampedBool}
-use Rattle.types.specs.declared.OptionStampedLandedState.{OptionStampedLandedState}
-use Rattle.types.specs.declared.OptionPositionSample.{OptionPositionSample}
-use Rattle.types.specs.declared.OptionGpsSample.{OptionGpsSample}
 use Rattle.types.specs.declared.Telemetry.{Telemetry}
 use Rattle.time.specs.Time.{plain, age, fresh, hold_met}
 use Rattle.config.specs.declared.Config.{Config}
@@ -22,40 +17,44 @@ use Rattle.alike.specs.Alike.{settings}
 use Rattle.alike.specs.Marked.{MarkedClaim}
 use Rattle.alike.proofs.Own.{own_is, own_state, own_read}
 use Rattle.alike.proofs.Rows.{marked_at, rows_step}
+use Rattle.types.specs.declared.Stamped.{Stamped}
+use Rattle.types.specs.declared.LandedState.{LandedState}
+use Rattle.types.specs.declared.PositionSample.{PositionSample}
+use Rattle.types.specs.declared.GpsSample.{GpsSample}
 
 -- ---- where an instant is there, its mark is that of the instant; where none is, no mark is put in
 
-held_own : (now hold : ℕ) (o : OptionU32) → instead (held_mark (hold_met plain now (own o) hold)) o ≡ instead (held_mark (held_now plain now o hold)) o
-held_own now hold OptionU32.None = refl
-held_own now hold (OptionU32.Some y) = refl
+held_own : (now hold : ℕ) (o : Option ℕ) → instead (held_mark (hold_met plain now (own o) hold)) o ≡ instead (held_mark (held_now plain now o hold)) o
+held_own now hold None = refl
+held_own now hold (Some y) = refl
 
-sound_own : (now : ℕ) (o : OptionU32) → instead (fresh_mark (started (age plain now (own o)))) o ≡ instead (fresh_mark (sound_now plain now o)) o
-sound_own now OptionU32.None = refl
-sound_own now (OptionU32.Some y) = refl
+sound_own : (now : ℕ) (o : Option ℕ) → instead (fresh_mark (started (age plain now (own o)))) o ≡ instead (fresh_mark (sound_now plain now o)) o
+sound_own now None = refl
+sound_own now (Some y) = refl
 
-gap_own : (now : ℕ) (p : OptionPositionSample) → position_at (gap_mark (up_to2000 (age plain now (own (position_stamp p))))) p ≡ position_at (gap_mark (gap_now plain now (position_stamp p))) p
-gap_own now OptionPositionSample.None = refl
-gap_own now (OptionPositionSample.Some p) = refl
+gap_own : (now : ℕ) (p : Option PositionSample) → position_at (gap_mark (up_to2000 (age plain now (own (position_stamp p))))) p ≡ position_at (gap_mark (gap_now plain now (position_stamp p))) p
+gap_own now None = refl
+gap_own now (Some p) = refl
 
-position_own : (now limit : ℕ) (p : OptionPositionSample) → position_at (fresh_mark (fresh plain now (own (position_stamp p)) limit)) p ≡ position_at (fresh_mark (fresh_now plain now (position_stamp p) limit)) p
-position_own now limit OptionPositionSample.None = refl
-position_own now limit (OptionPositionSample.Some p) = refl
+position_own : (now limit : ℕ) (p : Option PositionSample) → position_at (fresh_mark (fresh plain now (own (position_stamp p)) limit)) p ≡ position_at (fresh_mark (fresh_now plain now (position_stamp p) limit)) p
+position_own now limit None = refl
+position_own now limit (Some p) = refl
 
-gps_own : (now limit : ℕ) (p : OptionGpsSample) → gps_at (fresh_mark (fresh plain now (own (gps_stamp p)) limit)) p ≡ gps_at (fresh_mark (fresh_now plain now (gps_stamp p) limit)) p
-gps_own now limit OptionGpsSample.None = refl
-gps_own now limit (OptionGpsSample.Some p) = refl
+gps_own : (now limit : ℕ) (p : Option GpsSample) → gps_at (fresh_mark (fresh plain now (own (gps_stamp p)) limit)) p ≡ gps_at (fresh_mark (fresh_now plain now (gps_stamp p) limit)) p
+gps_own now limit None = refl
+gps_own now limit (Some p) = refl
 
-value_own : (now limit : ℕ) (p : OptionStampedF32) → value_at (fresh_mark (fresh plain now (own (value_stamp p)) limit)) p ≡ value_at (fresh_mark (fresh_now plain now (value_stamp p) limit)) p
-value_own now limit OptionStampedF32.None = refl
-value_own now limit (OptionStampedF32.Some t v) = refl
+value_own : (now limit : ℕ) (p : Option (Stamped Float)) → value_at (fresh_mark (fresh plain now (own (value_stamp p)) limit)) p ≡ value_at (fresh_mark (fresh_now plain now (value_stamp p) limit)) p
+value_own now limit None = refl
+value_own now limit (Some r) = refl
 
-flag_own : (now limit : ℕ) (p : OptionStampedBool) → flag_at (fresh_mark (fresh plain now (own (flag_stamp p)) limit)) p ≡ flag_at (fresh_mark (fresh_now plain now (flag_stamp p) limit)) p
-flag_own now limit OptionStampedBool.None = refl
-flag_own now limit (OptionStampedBool.Some t v) = refl
+flag_own : (now limit : ℕ) (p : Option (Stamped Bool)) → flag_at (fresh_mark (fresh plain now (own (flag_stamp p)) limit)) p ≡ flag_at (fresh_mark (fresh_now plain now (flag_stamp p) limit)) p
+flag_own now limit None = refl
+flag_own now limit (Some r) = refl
 
-landed_own : (now limit : ℕ) (p : OptionStampedLandedState) → landed_at (fresh_mark (fresh plain now (own (landed_stamp p)) limit)) p ≡ landed_at (fresh_mark (fresh_now plain now (landed_stamp p) limit)) p
-landed_own now limit OptionStampedLandedState.None = refl
-landed_own now limit (OptionStampedLandedState.Some t v) = refl
+landed_own : (now limit : ℕ) (p : Option (Stamped LandedState)) → landed_at (fresh_mark (fresh plain now (own (landed_stamp p)) limit)) p ≡ landed_at (fresh_mark (fresh_now plain now (landed_stamp p) limit)) p
+landed_own now limit None = refl
+landed_own now limit (Some r) = refl
 
 -- ---- so for the whole of it
 

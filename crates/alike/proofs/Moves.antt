@@ -1,11 +1,10 @@
 -- What holds between other instants and the held ones, and between other readings and the read ones, holds after a step. Assumes nothing.
+use Rattle.std.specs.Prelude.{Option, Some, None}
 use Prim.Native.Nat.{ℕ}
 use mathlib.Core.Path.{◌≡◌, refl, ap, ◌∙◌}
 use mathlib.Core.Bool.{Bool, true, false, cond}
 use lib.Ieee.{Float}
 use Rattle.types.specs.declared.Point2.{Point2}
-use Rattle.types.specs.declared.OptionU32.{OptionU32}
-use Rattle.types.specs.declared.OptionPositionSample.{OptionPositionSample}
 use Rattle.types.specs.declared.Telemetry.{Telemetry}
 use Rattle.time.specs.Time.{Clock, age}
 use Rattle.geometry.specs.declared.FenceDistance.{FenceDistance}
@@ -13,7 +12,7 @@ use Rattle.config.specs.declared.Config.{Config}
 use Rattle.validate.specs.declared.GlitchState.{GlitchState}
 use Rattle.validate.specs.declared.Filtered.{Filtered}
 use Rattle.validate.specs.declared.ValidatedTelemetry.{ValidatedTelemetry}
-use Rattle.validate.specs.Bounds.{validate_telemetry, keep_position, position_ok}
+use Rattle.validate.specs.Bounds.{validate_telemetry, keep, position_ok}
 use Rattle.validate.specs.Glitch.{accept_stored, apply_glitch_filter}
 use Rattle.validate.specs.Fresh.{confirmed_disarm}
 use Rattle.timers.specs.declared.Timer.{Timer}
@@ -29,35 +28,36 @@ use Rattle.instants.specs.Own.{position_stamp, instants_of, stamps_of}
 use Rattle.alike.specs.Alike.{settings}
 use Rattle.alike.specs.Both.{OfState}
 use Rattle.alike.proofs.Own.{own_is, own_step, timer_at_lem}
+use Rattle.types.specs.declared.PositionSample.{PositionSample}
 
 -- the last sound reading
-last_by : (a : OptionU32) (last epoch streak now : ℕ) → (by_age a last epoch streak now).last_now ≡ cond (by_age a last epoch streak now).fault (OptionU32.Some last) (OptionU32.Some now)
+last_by : (a : Option ℕ) (last epoch streak now : ℕ) → (by_age a last epoch streak now).last_now ≡ cond (by_age a last epoch streak now).fault (Some last) (Some now)
 unfolding clock_fault sound_clock
-last_by OptionU32.None last epoch streak now = refl
-last_by (OptionU32.Some a) last epoch streak now = refl
+last_by None last epoch streak now = refl
+last_by (Some a) last epoch streak now = refl
 
-last_is_lem : (ck : Clock) (last : OptionU32) (epoch streak now : ℕ) (initialized : Bool) → (clock_step ck last epoch streak initialized now).last_now ≡ cond (clock_step ck last epoch streak initialized now).fault last (OptionU32.Some now)
+last_is_lem : (ck : Clock) (last : Option ℕ) (epoch streak now : ℕ) (initialized : Bool) → (clock_step ck last epoch streak initialized now).last_now ≡ cond (clock_step ck last epoch streak initialized now).fault last (Some now)
 unfolding clock_step sound_clock
 last_is_lem ck last epoch streak now false = refl
-last_is_lem ck OptionU32.None epoch streak now true = refl
-last_is_lem ck (OptionU32.Some last) epoch streak now true = last_by (age ck now last) last epoch streak now
+last_is_lem ck None epoch streak now true = refl
+last_is_lem ck (Some last) epoch streak now true = last_by (age ck now last) last epoch streak now
 
 of_either : (Q : Stepped → Type 0) (b : Bool) (u v : Stepped) → Q u → Q v → Q (cond b u v)
 of_either Q true u v p q = p
 of_either Q false u v p q = q
 
-module _ (P : ℕ → OptionU32 → Type 0) (absent : (x : ℕ) → P x OptionU32.None) where
+module _ (P : ℕ → Option ℕ → Type 0) (absent : (x : ℕ) → P x None) where
   -- a timer that is there afterwards had its instant, or takes the reading
-  follows : (now1 now2 x w : ℕ) (o after : OptionU32) → after ≡ instead (onwards now1 w o) after → instead w o ≡ o → P x o → P now2 (OptionU32.Some now1) → P (onwards now2 x o) after
-  follows now1 now2 x w o OptionU32.None e own p q = absent _
-  follows now1 now2 x w OptionU32.None (OptionU32.Some y) e own p q = rw e q
-  follows now1 now2 x w (OptionU32.Some z) (OptionU32.Some y) e own p q = rw (e, own) p
+  follows : (now1 now2 x w : ℕ) (o after : Option ℕ) → after ≡ instead (onwards now1 w o) after → instead w o ≡ o → P x o → P now2 (Some now1) → P (onwards now2 x o) after
+  follows now1 now2 x w o None e own p q = absent _
+  follows now1 now2 x w None (Some y) e own p q = rw e q
+  follows now1 now2 x w (Some z) (Some y) e own p q = rw (e, own) p
 
   stored_kept : (third : Bool) (x : ℕ) (g : GlitchState) → P x (position_stamp g.last_accepted) → P x (position_stamp (glitch_after third g).last_accepted)
   stored_kept true x g p = absent _
   stored_kept false x g p = p
 
-  position_kept : (ok : Bool) (x : ℕ) (p : OptionPositionSample) → P x (position_stamp p) → P x (position_stamp (keep_position ok p))
+  position_kept : (ok : Bool) (x : ℕ) (p : Option PositionSample) → P x (position_stamp p) → P x (position_stamp (keep ok p))
   position_kept true x p h = h
   position_kept false x p h = absent _
 
@@ -65,19 +65,19 @@ module _ (P : ℕ → OptionU32 → Type 0) (absent : (x : ℕ) → P x OptionU3
   either_stored near x y true u v p q = p
   either_stored near x y false u v p q = q
 
-  stored_by : (ck : Clock) (near : Point2 → FenceDistance) (x y now : ℕ) (g : GlitchState) (p : OptionPositionSample) (v_max : Float) → P x (position_stamp g.last_accepted) → P y (position_stamp p) → P (cond (is_present (dist_of (place_of near (apply_glitch_filter ck g now p v_max).position))) y x) (position_stamp (apply_glitch_filter ck g now p v_max).glitch.last_accepted)
+  stored_by : (ck : Clock) (near : Point2 → FenceDistance) (x y now : ℕ) (g : GlitchState) (p : Option PositionSample) (v_max : Float) → P x (position_stamp g.last_accepted) → P y (position_stamp p) → P (cond (is_present (dist_of (place_of near (apply_glitch_filter ck g now p v_max).position))) y x) (position_stamp (apply_glitch_filter ck g now p v_max).glitch.last_accepted)
   unfolding apply_glitch_filter
-  stored_by ck near x y now g OptionPositionSample.None v_max h q = h
-  stored_by ck near x y now g (OptionPositionSample.Some sample) v_max h q = either_stored near x y (accept_stored ck g.last_accepted g.reject_streak now sample v_max) _ _ q h
+  stored_by ck near x y now g None v_max h q = h
+  stored_by ck near x y now g (Some sample) v_max h q = either_stored near x y (accept_stored ck g.last_accepted g.reject_streak now sample v_max) _ _ q h
 
-  last_kept : (fault : Bool) (x now2 now1 : ℕ) (o : OptionU32) → P x o → P now2 (OptionU32.Some now1) → P (cond fault x now2) (cond fault o (OptionU32.Some now1))
+  last_kept : (fault : Bool) (x now2 now1 : ℕ) (o : Option ℕ) → P x o → P now2 (Some now1) → P (cond fault x now2) (cond fault o (Some now1))
   last_kept true x now2 now1 o p q = p
   last_kept false x now2 now1 o p q = q
 
-module _ (P : ℕ → OptionU32 → Type 0) (absent : (x : ℕ) → P x OptionU32.None) where
+module _ (P : ℕ → Option ℕ → Type 0) (absent : (x : ℕ) → P x None) where
   module _
       (ck : Clock) (cfg : Config) (site : Site) (s : Supervisor) (i : Instants) (t : Telemetry) (j : Stamps)
-      (held : OfState P s i) (reading : P j.now (OptionU32.Some t.now_ms)) (position : P j.position (position_stamp t.position))
+      (held : OfState P s i) (reading : P j.now (Some t.now_ms)) (position : P j.position (position_stamp t.position))
     where
       abbrev r : Stepped
       r = step (settings ck cfg) s (fed_at site t)
@@ -145,7 +145,7 @@ module _ (P : ℕ → OptionU32 → Type 0) (absent : (x : ℕ) → P x OptionU3
       stored_moves =
           let g = stored_kept P absent clock.third i.stored s.glitch held.stored in
           of_either (λ (x : Stepped). P (cond (is_present x.decision.fence_dist_m) j.position i.stored) (position_stamp x.supervisor.glitch.last_accepted)) is_disarm on_disarm on_flight g
-          (stored_by P absent ck site.near i.stored j.position t.now_ms (glitch_after clock.third s.glitch) (keep_position (position_ok t.position) t.position) cfg.v_max g (position_kept P absent (position_ok t.position) j.position t.position position))
+          (stored_by P absent ck site.near i.stored j.position t.now_ms (glitch_after clock.third s.glitch) (keep (position_ok t.position) t.position) cfg.v_max g (position_kept P absent (position_ok t.position) j.position t.position position))
 
       pub moves : OfState P r.supervisor after
       moves = record { timer = timer_moves; recovery = recovery_moves; gate = gate_moves; stored = stored_moves; last = last_moves }

@@ -1,13 +1,8 @@
 -- A step over its own instants: so each is kept, is the reading, or is gone. Assumes nothing.
+use Rattle.std.specs.Prelude.{Option, Some, None, Float, Bool}
 use Prim.Native.Nat.{ℕ}
 use mathlib.Core.Path.{◌≡◌, refl, ap, ap₂, sym, ◌∙◌}
 use lib.Dec.{leb, ltb}
-use Rattle.types.specs.declared.OptionU32.{OptionU32}
-use Rattle.types.specs.declared.OptionStampedF32.{OptionStampedF32}
-use Rattle.types.specs.declared.OptionStampedBool.{OptionStampedBool}
-use Rattle.types.specs.declared.OptionStampedLandedState.{OptionStampedLandedState}
-use Rattle.types.specs.declared.OptionPositionSample.{OptionPositionSample}
-use Rattle.types.specs.declared.OptionGpsSample.{OptionGpsSample}
 use Rattle.types.specs.declared.Telemetry.{Telemetry}
 use Rattle.time.specs.Time.{Clock}
 use Rattle.config.specs.declared.Config.{Config}
@@ -22,30 +17,34 @@ use Rattle.instants.specs.Own.{position_stamp, gps_stamp, value_stamp, flag_stam
 use Rattle.marks.specs.Marks.{held_now, fresh_now, sound_now, gap_now}
 use Rattle.alike.specs.Alike.{StateAlike, ReadAlike, settings}
 use Rattle.alike.proofs.Step.{alike}
+use Rattle.types.specs.declared.Stamped.{Stamped}
+use Rattle.types.specs.declared.LandedState.{LandedState}
+use Rattle.types.specs.declared.PositionSample.{PositionSample}
+use Rattle.types.specs.declared.GpsSample.{GpsSample}
 
-pub own_is : (o : OptionU32) → instead (own o) o ≡ o
-own_is OptionU32.None = refl
-own_is (OptionU32.Some y) = refl
+pub own_is : (o : Option ℕ) → instead (own o) o ≡ o
+own_is None = refl
+own_is (Some y) = refl
 
-own_position : (p : OptionPositionSample) → position_at (own (position_stamp p)) p ≡ p
-own_position OptionPositionSample.None = refl
-own_position (OptionPositionSample.Some p) = refl
+own_position : (p : Option PositionSample) → position_at (own (position_stamp p)) p ≡ p
+own_position None = refl
+own_position (Some p) = refl
 
-own_gps : (p : OptionGpsSample) → gps_at (own (gps_stamp p)) p ≡ p
-own_gps OptionGpsSample.None = refl
-own_gps (OptionGpsSample.Some p) = refl
+own_gps : (p : Option GpsSample) → gps_at (own (gps_stamp p)) p ≡ p
+own_gps None = refl
+own_gps (Some p) = refl
 
-own_value : (p : OptionStampedF32) → value_at (own (value_stamp p)) p ≡ p
-own_value OptionStampedF32.None = refl
-own_value (OptionStampedF32.Some t v) = refl
+own_value : (p : Option (Stamped Float)) → value_at (own (value_stamp p)) p ≡ p
+own_value None = refl
+own_value (Some r) = refl
 
-own_flag : (p : OptionStampedBool) → flag_at (own (flag_stamp p)) p ≡ p
-own_flag OptionStampedBool.None = refl
-own_flag (OptionStampedBool.Some t v) = refl
+own_flag : (p : Option (Stamped Bool)) → flag_at (own (flag_stamp p)) p ≡ p
+own_flag None = refl
+own_flag (Some r) = refl
 
-own_landed : (p : OptionStampedLandedState) → landed_at (own (landed_stamp p)) p ≡ p
-own_landed OptionStampedLandedState.None = refl
-own_landed (OptionStampedLandedState.Some t v) = refl
+own_landed : (p : Option (Stamped LandedState)) → landed_at (own (landed_stamp p)) p ≡ p
+own_landed None = refl
+own_landed (Some r) = refl
 
 pub own_state : (s : Supervisor) → supervisor_at (instants_of s) s ≡ s
 unfolding supervisor_at triggers_at instants_of
@@ -71,7 +70,7 @@ module _ (ck : Clock) (cfg : Config) (s : Supervisor) (t : Telemetry) where
         last = ap (sound_now ck t.now_ms) (own_is s.last_now);
       }
 
-  fresh : (o : OptionU32) (limit : ℕ) → fresh_now ck t.now_ms (instead (own o) o) limit ≡ fresh_now ck t.now_ms o limit
+  fresh : (o : Option ℕ) (limit : ℕ) → fresh_now ck t.now_ms (instead (own o) o) limit ≡ fresh_now ck t.now_ms o limit
   fresh o limit = ap (λ x. fresh_now ck t.now_ms x limit) (own_is o)
 
   read_alike : ReadAlike ck ck cfg cfg t (stamps_of t)

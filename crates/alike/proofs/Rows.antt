@@ -1,13 +1,8 @@
 -- The 64-bit step on the 32-bit code, from instants that are given beside a state, by `alike`. Assumes nothing.
+use Rattle.std.specs.Prelude.{Option, Some, None, Float, Bool}
 use Prim.Native.Nat.{ℕ, min}
 use mathlib.Core.Path.{◌≡◌, refl, ap, sym, ◌∙◌}
 use native.Mathlib.Omega.{arith}
-use Rattle.types.specs.declared.OptionU32.{OptionU32}
-use Rattle.types.specs.declared.OptionStampedF32.{OptionStampedF32}
-use Rattle.types.specs.declared.OptionStampedBool.{OptionStampedBool}
-use Rattle.types.specs.declared.OptionStampedLandedState.{OptionStampedLandedState}
-use Rattle.types.specs.declared.OptionPositionSample.{OptionPositionSample}
-use Rattle.types.specs.declared.OptionGpsSample.{OptionGpsSample}
 use Rattle.types.specs.declared.Telemetry.{Telemetry}
 use Rattle.time.specs.Time.{wrapping, plain, age, fresh, hold_met}
 use Rattle.config.specs.declared.Config.{Config}
@@ -25,32 +20,36 @@ use Rattle.alike.specs.Marked.{RowsClaim}
 use Rattle.marks.proofs.Marks.{met_mark, starts, starts_plain, fresh_mark_lem, sound_mark, gap_mark_lem, above_mark_lem, within_mark_lem}
 use Rattle.alike.proofs.Step.{alike}
 use Rattle.alike.proofs.Own.{timer_at_lem}
+use Rattle.types.specs.declared.Stamped.{Stamped}
+use Rattle.types.specs.declared.LandedState.{LandedState}
+use Rattle.types.specs.declared.PositionSample.{PositionSample}
+use Rattle.types.specs.declared.GpsSample.{GpsSample}
 
 -- ---- instants put in twice are those put in last
 
-twice : (x y : ℕ) (o : OptionU32) → instead x (instead y o) ≡ instead x o
-twice x y OptionU32.None = refl
-twice x y (OptionU32.Some z) = refl
+twice : (x y : ℕ) (o : Option ℕ) → instead x (instead y o) ≡ instead x o
+twice x y None = refl
+twice x y (Some z) = refl
 
-twice_position : (x y : ℕ) (p : OptionPositionSample) → position_at x (position_at y p) ≡ position_at x p
-twice_position x y OptionPositionSample.None = refl
-twice_position x y (OptionPositionSample.Some p) = refl
+twice_position : (x y : ℕ) (p : Option PositionSample) → position_at x (position_at y p) ≡ position_at x p
+twice_position x y None = refl
+twice_position x y (Some p) = refl
 
-twice_gps : (x y : ℕ) (p : OptionGpsSample) → gps_at x (gps_at y p) ≡ gps_at x p
-twice_gps x y OptionGpsSample.None = refl
-twice_gps x y (OptionGpsSample.Some p) = refl
+twice_gps : (x y : ℕ) (p : Option GpsSample) → gps_at x (gps_at y p) ≡ gps_at x p
+twice_gps x y None = refl
+twice_gps x y (Some p) = refl
 
-twice_value : (x y : ℕ) (p : OptionStampedF32) → value_at x (value_at y p) ≡ value_at x p
-twice_value x y OptionStampedF32.None = refl
-twice_value x y (OptionStampedF32.Some t v) = refl
+twice_value : (x y : ℕ) (p : Option (Stamped Float)) → value_at x (value_at y p) ≡ value_at x p
+twice_value x y None = refl
+twice_value x y (Some r) = refl
 
-twice_flag : (x y : ℕ) (p : OptionStampedBool) → flag_at x (flag_at y p) ≡ flag_at x p
-twice_flag x y OptionStampedBool.None = refl
-twice_flag x y (OptionStampedBool.Some t v) = refl
+twice_flag : (x y : ℕ) (p : Option (Stamped Bool)) → flag_at x (flag_at y p) ≡ flag_at x p
+twice_flag x y None = refl
+twice_flag x y (Some r) = refl
 
-twice_landed : (x y : ℕ) (p : OptionStampedLandedState) → landed_at x (landed_at y p) ≡ landed_at x p
-twice_landed x y OptionStampedLandedState.None = refl
-twice_landed x y (OptionStampedLandedState.Some t v) = refl
+twice_landed : (x y : ℕ) (p : Option (Stamped LandedState)) → landed_at x (landed_at y p) ≡ landed_at x p
+twice_landed x y None = refl
+twice_landed x y (Some r) = refl
 
 pub supervisor_twice : (i m : Instants) (y : Supervisor) → supervisor_at i (supervisor_at m y) ≡ supervisor_at i y
 unfolding supervisor_at triggers_at
@@ -61,43 +60,43 @@ unfolding telemetry_at
 telemetry_twice j m u = simp (twice, twice_position, twice_gps, twice_value, twice_flag, twice_landed)
 
 -- the stamps of marked readings
-position_at_lem : (x : ℕ) (p : OptionPositionSample) → position_stamp (position_at x p) ≡ instead x (position_stamp p)
-position_at_lem x OptionPositionSample.None = refl
-position_at_lem x (OptionPositionSample.Some p) = refl
+position_at_lem : (x : ℕ) (p : Option PositionSample) → position_stamp (position_at x p) ≡ instead x (position_stamp p)
+position_at_lem x None = refl
+position_at_lem x (Some p) = refl
 
-gps_at_lem : (x : ℕ) (p : OptionGpsSample) → gps_stamp (gps_at x p) ≡ instead x (gps_stamp p)
-gps_at_lem x OptionGpsSample.None = refl
-gps_at_lem x (OptionGpsSample.Some p) = refl
+gps_at_lem : (x : ℕ) (p : Option GpsSample) → gps_stamp (gps_at x p) ≡ instead x (gps_stamp p)
+gps_at_lem x None = refl
+gps_at_lem x (Some p) = refl
 
-value_at_lem : (x : ℕ) (p : OptionStampedF32) → value_stamp (value_at x p) ≡ instead x (value_stamp p)
-value_at_lem x OptionStampedF32.None = refl
-value_at_lem x (OptionStampedF32.Some t v) = refl
+value_at_lem : (x : ℕ) (p : Option (Stamped Float)) → value_stamp (value_at x p) ≡ instead x (value_stamp p)
+value_at_lem x None = refl
+value_at_lem x (Some r) = refl
 
-flag_at_lem : (x : ℕ) (p : OptionStampedBool) → flag_stamp (flag_at x p) ≡ instead x (flag_stamp p)
-flag_at_lem x OptionStampedBool.None = refl
-flag_at_lem x (OptionStampedBool.Some t v) = refl
+flag_at_lem : (x : ℕ) (p : Option (Stamped Bool)) → flag_stamp (flag_at x p) ≡ instead x (flag_stamp p)
+flag_at_lem x None = refl
+flag_at_lem x (Some r) = refl
 
-landed_at_lem : (x : ℕ) (p : OptionStampedLandedState) → landed_stamp (landed_at x p) ≡ instead x (landed_stamp p)
-landed_at_lem x OptionStampedLandedState.None = refl
-landed_at_lem x (OptionStampedLandedState.Some t v) = refl
+landed_at_lem : (x : ℕ) (p : Option (Stamped LandedState)) → landed_stamp (landed_at x p) ≡ instead x (landed_stamp p)
+landed_at_lem x None = refl
+landed_at_lem x (Some r) = refl
 
 -- ---- each test comes out alike
 
-hold_alike : (now hold x : ℕ) (o : OptionU32) → let m = held_mark (hold_met plain now x hold) in HoldAlike wrapping plain reading now x (instead m o) (min hold 1) hold
-hold_alike now hold x OptionU32.None = starts_plain now hold ∙ sym (starts hold)
-hold_alike now hold x (OptionU32.Some y) = sym (met_mark (hold_met plain now x hold) (min hold 1) (omega arith))
+hold_alike : (now hold x : ℕ) (o : Option ℕ) → let m = held_mark (hold_met plain now x hold) in HoldAlike wrapping plain reading now x (instead m o) (min hold 1) hold
+hold_alike now hold x None = starts_plain now hold ∙ sym (starts hold)
+hold_alike now hold x (Some y) = sym (met_mark (hold_met plain now x hold) (min hold 1) (omega arith))
 
-fresh_alike : (now limit x : ℕ) (o : OptionU32) → let m = fresh_mark (fresh plain now x limit) in FreshAlike wrapping plain reading now x (instead m o) limit limit
-fresh_alike now limit x OptionU32.None = refl
-fresh_alike now limit x (OptionU32.Some y) = sym (fresh_mark_lem (fresh plain now x limit) limit)
+fresh_alike : (now limit x : ℕ) (o : Option ℕ) → let m = fresh_mark (fresh plain now x limit) in FreshAlike wrapping plain reading now x (instead m o) limit limit
+fresh_alike now limit x None = refl
+fresh_alike now limit x (Some y) = sym (fresh_mark_lem (fresh plain now x limit) limit)
 
-gap_alike : (now x : ℕ) (o : OptionU32) → let m = gap_mark (up_to2000 (age plain now x)) in gap_now plain now (instead x (instead m o)) ≡ gap_now wrapping reading (instead m o)
-gap_alike now x OptionU32.None = refl
-gap_alike now x (OptionU32.Some y) = sym (gap_mark_lem (age plain now x))
+gap_alike : (now x : ℕ) (o : Option ℕ) → let m = gap_mark (up_to2000 (age plain now x)) in gap_now plain now (instead x (instead m o)) ≡ gap_now wrapping reading (instead m o)
+gap_alike now x None = refl
+gap_alike now x (Some y) = sym (gap_mark_lem (age plain now x))
 
-sound_alike : (now x : ℕ) (o : OptionU32) → let m = fresh_mark (started (age plain now x)) in sound_now plain now (instead x (instead m o)) ≡ sound_now wrapping reading (instead m o)
-sound_alike now x OptionU32.None = refl
-sound_alike now x (OptionU32.Some y) = sym (sound_mark (started (age plain now x)))
+sound_alike : (now x : ℕ) (o : Option ℕ) → let m = fresh_mark (started (age plain now x)) in sound_now plain now (instead x (instead m o)) ≡ sound_now wrapping reading (instead m o)
+sound_alike now x None = refl
+sound_alike now x (Some y) = sym (sound_mark (started (age plain now x)))
 
 hold_at : (cfg : Config) (a : ℕ) (n : TimerName) → hold_of (marked_by cfg a) n ≡ min (hold_of cfg n) 1
 unfolding marked_by

@@ -1,11 +1,10 @@
 -- What is sensed under another clock. Assumes nothing.
+use Rattle.std.specs.Prelude.{Option, Some, None}
 use Prim.Native.Nat.{ℕ}
 use mathlib.Core.Path.{◌≡◌, refl, ap, ap₂, ◌∙◌}
 use mathlib.Core.Bool.{Bool, false, cond}
 use lib.Ieee.{Float}
 use Rattle.types.specs.declared.Point2.{Point2}
-use Rattle.types.specs.declared.OptionF32.{OptionF32}
-use Rattle.types.specs.declared.OptionPositionSample.{OptionPositionSample}
 use Rattle.types.specs.declared.EnergyEstimate.{EnergyEstimate}
 use Rattle.types.specs.declared.Telemetry.{Telemetry}
 use Rattle.types.specs.ActiveSet.{requested_action}
@@ -17,7 +16,6 @@ use Rattle.validate.specs.declared.GlitchState.{GlitchState}
 use Rattle.validate.specs.declared.Filtered.{Filtered}
 use Rattle.validate.specs.Glitch.{apply_glitch_filter}
 use Rattle.validate.specs.Fresh.{position_valid, fresh_remaining_wh}
-use Rattle.triggers.specs.declared.OptionPlace.{OptionPlace}
 use Rattle.triggers.specs.declared.TriggerState.{TriggerState}
 use Rattle.triggers.specs.Families.{is_present}
 use Rattle.triggers.specs.Update.{update}
@@ -31,20 +29,22 @@ use Rattle.alike.specs.Alike.{ReadAlike, settings}
 use Rattle.alike.proofs.Fresh.{valid_alike}
 use Rattle.alike.proofs.Filter.{filter_law, left_fresh}
 use Rattle.alike.proofs.Update.{ekf_good, remaining, TimersAlike, update_law}
+use Rattle.types.specs.declared.PositionSample.{PositionSample}
+use Rattle.triggers.specs.declared.Place.{Place}
 
-place_at : (near : Point2 → FenceDistance) (x : ℕ) (p : OptionPositionSample) → place_of near (position_at x p) ≡ place_of near p
-place_at near x OptionPositionSample.None = refl
-place_at near x (OptionPositionSample.Some p) = refl
+place_at : (near : Point2 → FenceDistance) (x : ℕ) (p : Option PositionSample) → place_of near (position_at x p) ≡ place_of near p
+place_at near x None = refl
+place_at near x (Some p) = refl
 
 -- the energy reads no duration
-pub rtl_at : (d cfg : Config) (h m : Float) (r : OptionF32) → rtl_energy_at (durations_of d cfg) h m r ≡ rtl_energy_at cfg h m r
+pub rtl_at : (d cfg : Config) (h m : Float) (r : Option Float) → rtl_energy_at (durations_of d cfg) h m r ≡ rtl_energy_at cfg h m r
 unfolding rtl_energy_at rtl_wh land_wh durations_of
 rtl_at d cfg h m r = refl
 
-energy_same : (d cfg : Config) (p : OptionPlace) (r : OptionF32) → energy_at (durations_of d cfg) p r ≡ energy_at cfg p r
+energy_same : (d cfg : Config) (p : Option Place) (r : Option Float) → energy_at (durations_of d cfg) p r ≡ energy_at cfg p r
 unfolding rtl_energy
-energy_same d cfg OptionPlace.None r = rtl_at d cfg _ _ r
-energy_same d cfg (OptionPlace.Some p) r = rtl_at d cfg p.home_dist_m p.alt_m r
+energy_same d cfg None r = rtl_at d cfg _ _ r
+energy_same d cfg (Some p) r = rtl_at d cfg p.home_dist_m p.alt_m r
 
 -- a sample was left, and stored, where there is a distance
 abbrev pub sensed_at : (TimerName → ℕ) → ℕ → ℕ → Sensed → Sensed

@@ -1,4 +1,5 @@
 -- One step under another clock. Assumes nothing.
+use Rattle.std.specs.Prelude.{Option, None}
 use Prim.Native.Nat.{ℕ}
 use mathlib.Core.Path.{◌≡◌, refl, ap, ap₂, sym, ◌∙◌}
 use mathlib.Core.Bool.{Bool, true, false, not, ◌&&◌, cond, true≢false, false≢true}
@@ -6,8 +7,6 @@ use lib.Dec.{eqb}
 use lib.Ieee.{Float}
 use Rattle.types.specs.declared.Action.{Action}
 use Rattle.types.specs.declared.Reason.{Reason}
-use Rattle.types.specs.declared.OptionU32.{OptionU32}
-use Rattle.types.specs.declared.OptionF32.{OptionF32}
 use Rattle.types.specs.declared.Request.{Request}
 use Rattle.types.specs.declared.Telemetry.{Telemetry}
 use Rattle.time.specs.Time.{Clock}
@@ -17,7 +16,6 @@ use Rattle.validate.specs.declared.GlitchState.{GlitchState}
 use Rattle.validate.specs.declared.ValidatedTelemetry.{ValidatedTelemetry}
 use Rattle.validate.specs.Bounds.{validate_telemetry}
 use Rattle.validate.specs.Fresh.{confirmed_disarm}
-use Rattle.triggers.specs.declared.OptionPlace.{OptionPlace}
 use Rattle.triggers.specs.declared.TriggerState.{TriggerState}
 use Rattle.triggers.specs.Families.{is_present}
 use Rattle.triggers.specs.Update.{fresh_triggers, without_gcs_timer, update}
@@ -40,6 +38,7 @@ use Rattle.alike.proofs.Fresh.{disarm_alike}
 use Rattle.alike.proofs.Filter.{validated_at, validate_law, validated_read}
 use Rattle.alike.proofs.Sense.{rtl_at, sensed_at, sense_law}
 use Rattle.alike.proofs.Show.{clock_at, clock_law, sound_third, third_fault_lem, third_read, arbitrate_law, evaluate_law}
+use Rattle.triggers.specs.declared.Place.{Place}
 
 -- ---- what a third fault clears
 
@@ -135,13 +134,13 @@ module _ (c1 c2 : Clock) (cfg d : Config) (now1 now2 : ℕ) (s : Supervisor) (i 
 
 -- after a third fault the link's timer and the recovery are not there
 module _ (now2 : ℕ) where
-  masked_triggers : (i : TimerName → ℕ) (s : TriggerState) (ck : Clock) (t : Telemetry) (cfg : Config) (min_alt max_alt : Float) (place : OptionPlace) (margin : OptionF32) (invalid third fault : Bool) → (third ≡ true → fault ≡ true) → triggers_at (timers_after now2 i (triggers_after third s)) (update ck (triggers_after third s) t cfg min_alt max_alt place margin invalid fault).triggers ≡ triggers_at (timers_after now2 i s) (update ck (triggers_after third s) t cfg min_alt max_alt place margin invalid fault).triggers
+  masked_triggers : (i : TimerName → ℕ) (s : TriggerState) (ck : Clock) (t : Telemetry) (cfg : Config) (min_alt max_alt : Float) (place : Option Place) (margin : Option Float) (invalid third fault : Bool) → (third ≡ true → fault ≡ true) → triggers_at (timers_after now2 i (triggers_after third s)) (update ck (triggers_after third s) t cfg min_alt max_alt place margin invalid fault).triggers ≡ triggers_at (timers_after now2 i s) (update ck (triggers_after third s) t cfg min_alt max_alt place margin invalid fault).triggers
   unfolding triggers_at update without_gcs_timer
   masked_triggers i s ck t cfg min_alt max_alt place margin invalid true true e = refl
   masked_triggers i s ck t cfg min_alt max_alt place margin invalid true false e = absurd (false≢true (e refl))
   masked_triggers i s ck t cfg min_alt max_alt place margin invalid false fault e = refl
 
-  either_none : (b : Bool) (x y : ℕ) (o p : Request) → arbiter_at x (cond b (shown o OptionU32.None) (shown p OptionU32.None)).state ≡ arbiter_at y (cond b (shown o OptionU32.None) (shown p OptionU32.None)).state
+  either_none : (b : Bool) (x y : ℕ) (o p : Request) → arbiter_at x (cond b (shown o None) (shown p None)).state ≡ arbiter_at y (cond b (shown o None) (shown p None)).state
   either_none true x y o p = refl
   either_none false x y o p = refl
 

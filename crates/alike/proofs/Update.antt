@@ -1,18 +1,17 @@
 -- A step of the triggers under another clock. Assumes nothing.
+use Rattle.std.specs.Prelude.{Option}
 use Prim.Native.Nat.{ℕ}
 use mathlib.Core.Path.{◌≡◌, refl, ap, ap₂, ◌∙◌}
 use mathlib.Core.Bool.{Bool, true, false}
 use lib.Ieee.{Float}
 use Rattle.types.specs.declared.Action.{Action}
 use Rattle.types.specs.declared.Reason.{Reason}
-use Rattle.types.specs.declared.OptionF32.{OptionF32}
 use Rattle.types.specs.declared.Telemetry.{Telemetry}
 use Rattle.types.specs.ActiveSet.{empty_set, set_request}
 use Rattle.time.specs.Time.{Clock}
 use Rattle.config.specs.declared.Config.{Config}
 use Rattle.validate.specs.Fresh.{fresh_true, fresh_landed, fresh_battery_percent, fresh_remaining_wh, fresh_voltage}
 use Rattle.timers.specs.Timer.{raised_by}
-use Rattle.triggers.specs.declared.OptionPlace.{OptionPlace}
 use Rattle.triggers.specs.declared.Raised.{Raised}
 use Rattle.triggers.specs.declared.Families.{Families}
 use Rattle.triggers.specs.declared.TriggerState.{TriggerState}
@@ -24,6 +23,7 @@ use Rattle.alike.specs.Alike.{HoldAlike, ReadAlike}
 use Rattle.alike.proofs.Timers.{instead_onwards}
 use Rattle.alike.proofs.Fresh.{true_alike, value_alike, landed_alike}
 use Rattle.alike.proofs.Families.{families_at, invalid_law, gcs_law, rc_law, gps_law, ekf_law, fence_law, stale_law, battery_law, energy_law}
+use Rattle.triggers.specs.declared.Place.{Place}
 
 -- neither what is raised nor the requests filed have an instant
 raised_at : (i : TimerName → ℕ) (keeps : Bool) (before : Raised) (f : Families) → raised_of keeps before (families_at i f) ≡ raised_of keeps before f
@@ -100,7 +100,7 @@ module _ (c1 c2 : Clock) (cfg d : Config) (t : Telemetry) (j : Stamps) (read : R
       abbrev after : TimerName → ℕ
       after = timers_after j.now i s
 
-      families_law : TimersAlike → (min_alt max_alt : Float) (place : OptionPlace) (margin : OptionF32) (invalid : Bool) → families c2 (triggers_at i s) (telemetry_at j t) other min_alt max_alt place margin invalid ≡ families_at after (families c1 s t cfg min_alt max_alt place margin invalid)
+      families_law : TimersAlike → (min_alt max_alt : Float) (place : Option Place) (margin : Option Float) (invalid : Bool) → families c2 (triggers_at i s) (telemetry_at j t) other min_alt max_alt place margin invalid ≡ families_at after (families c1 s t cfg min_alt max_alt place margin invalid)
       unfolding families families_at triggers_at telemetry_at durations_of
       families_law alike min_alt max_alt place margin invalid =
           let rc = ap (λ b. rc_link c2 (timer_at (i rc_set) s.rc_lost_set) (timer_at (i rc_clear) s.rc_clear_timer) j.now b other) rc_good ∙ rc_law c1 c2 now1 j.now cfg d s i alike _ in
@@ -125,7 +125,7 @@ module _ (c1 c2 : Clock) (cfg d : Config) (t : Telemetry) (j : Stamps) (read : R
       unfolding triggers_at
       rested_law = simp (← instead_onwards)
 
-      pub update_law : (min_alt max_alt : Float) (place : OptionPlace) (margin : OptionF32) (invalid fault : Bool) → (fault ≡ false → TimersAlike) → update c2 (triggers_at i s) (telemetry_at j t) other min_alt max_alt place margin invalid fault ≡ updated_at after (update c1 s t cfg min_alt max_alt place margin invalid fault)
+      pub update_law : (min_alt max_alt : Float) (place : Option Place) (margin : Option Float) (invalid fault : Bool) → (fault ≡ false → TimersAlike) → update c2 (triggers_at i s) (telemetry_at j t) other min_alt max_alt place margin invalid fault ≡ updated_at after (update c1 s t cfg min_alt max_alt place margin invalid fault)
       unfolding update triggers_at durations_of
       update_law min_alt max_alt place margin invalid true alike = λ k. record { triggers = rested_law k; active = set_request empty_set Reason.ClockFault Action.Warn }
       update_law min_alt max_alt place margin invalid false alike =

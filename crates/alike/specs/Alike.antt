@@ -1,7 +1,6 @@
 -- Document 02, L7: what two steps on different clocks have to test alike, to be the same step with other instants. Assumes nothing.
 -- The first step has clock c1, configuration cfg, state s, telemetry t; the second c2, the durations of d, the state at instants i, telemetry at stamps j.
-use Rattle.std.specs.Prelude.{ℕ, ◌≡◌, leb, ltb}
-use Rattle.types.specs.declared.OptionU32.{OptionU32}
+use Rattle.std.specs.Prelude.{ℕ, ◌≡◌, leb, ltb, Option}
 use Rattle.types.specs.declared.Telemetry.{Telemetry}
 use Rattle.time.specs.Time.{Clock}
 use Rattle.config.specs.declared.Config.{Config}
@@ -16,11 +15,11 @@ use Rattle.marks.specs.Marks.{held_now, fresh_now, sound_now, gap_now}
 
 module _ (c1 c2 : Clock) (now1 now2 : ℕ) where
   -- a hold, of an instant or of x in its place
-  abbrev pub HoldAlike : ℕ → OptionU32 → ℕ → ℕ → Type 0
+  abbrev pub HoldAlike : ℕ → Option ℕ → ℕ → ℕ → Type 0
   HoldAlike x since hold1 hold2 = held_now c2 now2 (instead x since) hold2 ≡ held_now c1 now1 since hold1
 
   -- a freshness
-  abbrev pub FreshAlike : ℕ → OptionU32 → ℕ → ℕ → Type 0
+  abbrev pub FreshAlike : ℕ → Option ℕ → ℕ → ℕ → Type 0
   FreshAlike x stamp limit1 limit2 = fresh_now c2 now2 (instead x stamp) limit2 ≡ fresh_now c1 now1 stamp limit1
 
 module _ (c1 c2 : Clock) (cfg d : Config) where

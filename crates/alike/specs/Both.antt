@@ -1,7 +1,6 @@
 -- Document 02, L7: "both clocks, fed the same but for the upper halves of telemetry's instants .., yield the same Decisions". Assumes nothing.
 -- A 64-bit instant stands in `Instants` and `Stamps`, beside the 32-bit state and telemetry whose place it takes.
-use Rattle.std.specs.Prelude.{ℕ, ◌+◌, ◌-◌, ◌%◌, ◌^◌, ◌≤◌, ◌<◌, ◌≡◌, List, [], ◌∷◌}
-use Rattle.types.specs.declared.OptionU32.{OptionU32}
+use Rattle.std.specs.Prelude.{ℕ, ◌+◌, ◌-◌, ◌%◌, ◌^◌, ◌≤◌, ◌<◌, ◌≡◌, List, [], ◌∷◌, Option, Some, None}
 use Rattle.types.specs.declared.Telemetry.{Telemetry}
 use Rattle.types.specs.declared.Decision.{Decision}
 use Rattle.time.specs.Time.{plain, wrapping_sub}
@@ -15,22 +14,22 @@ use Rattle.instants.specs.Own.{position_stamp, gps_stamp, value_stamp, flag_stam
 use Rattle.alike.specs.Alike.{settings}
 
 -- an instant of 64 bits whose low half is the held one
-abbrev pub LowHalf : ℕ → OptionU32 → Type 0
-LowHalf x OptionU32.None = Unit {0}
-LowHalf x (OptionU32.Some y) = x % 2 ^ 32 ≡ y
+abbrev pub LowHalf : ℕ → Option ℕ → Type 0
+LowHalf x None = Unit {0}
+LowHalf x (Some y) = x % 2 ^ 32 ≡ y
 
 -- not ahead of the reading, and its age under 2^31
-abbrev pub Young : ℕ → ℕ → OptionU32 → Type 0
-Young now x OptionU32.None = Unit {0}
-Young now x (OptionU32.Some y) = (x ≤ now) × (now < x + 2 ^ 31)
+abbrev pub Young : ℕ → ℕ → Option ℕ → Type 0
+Young now x None = Unit {0}
+Young now x (Some y) = (x ≤ now) × (now < x + 2 ^ 31)
 
 -- "each held instant becomes T minus its wrapping age at last_now"
-abbrev pub CarriedOver : ℕ → ℕ → ℕ → OptionU32 → Type 0
-CarriedOver T last x OptionU32.None = Unit {0}
-CarriedOver T last x (OptionU32.Some y) = (y < 2 ^ 32) × (wrapping_sub last y ≤ T) × (x ≡ T - wrapping_sub last y)
+abbrev pub CarriedOver : ℕ → ℕ → ℕ → Option ℕ → Type 0
+CarriedOver T last x None = Unit {0}
+CarriedOver T last x (Some y) = (y < 2 ^ 32) × (wrapping_sub last y ≤ T) × (x ≡ T - wrapping_sub last y)
 
 -- of every instant that is held but the epoch, which no Decision reads
-pub record OfState (P : ℕ → OptionU32 → Type 0) (s : Supervisor) (i : Instants) : Type 0 where
+pub record OfState (P : ℕ → Option ℕ → Type 0) (s : Supervisor) (i : Instants) : Type 0 where
   pub timer : (n : TimerName) → P (i.timer n) (timer_of s.triggers n).since_ms
   pub recovery : P i.recovery s.arbiter.recovery_since_ms
   pub gate : P i.gate s.disarm.hold_since_ms
@@ -38,7 +37,7 @@ pub record OfState (P : ℕ → OptionU32 → Type 0) (s : Supervisor) (i : Inst
   pub last : P i.last s.last_now
 
 -- of every stamp that is read
-pub record OfRead (P : ℕ → OptionU32 → Type 0) (t : Telemetry) (j : Stamps) : Type 0 where
+pub record OfRead (P : ℕ → Option ℕ → Type 0) (t : Telemetry) (j : Stamps) : Type 0 where
   pub position : P j.position (position_stamp t.position)
   pub gps : P j.gps (gps_stamp t.gps)
   pub voltage : P j.voltage (value_stamp t.battery.voltage_v)

@@ -1,17 +1,17 @@
 // The Rust's arbiter.rs: latches, persistence, feasibility.
-#![tactic(auto)]
+#![tactic(auto, unfolding(crate::specs::Arbiter::without_recovery, crate::specs::Arbiter::recover, crate::specs::Arbiter::apply_persistence, crate::specs::Arbiter::apply_feasibility, crate::specs::Arbiter::arbitrate))]
 
 ghost use Rattle.std.specs.Prelude.{◌≡◌};
 ghost use Rattle.time.specs.Time.{wrapping};
-ghost use Rattle.arbiter.specs.Arbiter.{fresh_arbiter, without_recovery, wanted, apply_persistence, apply_feasibility, arbitrate, previous, recovery_start, recover, shown, needs_position};
+ghost use Rattle.arbiter.specs.Arbiter.{fresh_arbiter, without_recovery, wanted, apply_persistence, apply_feasibility, arbitrate, previous, recover, shown, needs_position};
 
-use types::{Action, OptionU32, Reason, Request};
+use types::{Action, Reason, Request};
 
 #[derive(Clone, Copy)]
 pub struct ArbiterState {
     pub prev_output: Action,
     pub prev_reason: Reason,
-    pub recovery_since_ms: OptionU32,
+    pub recovery_since_ms: Option<u32>,
 }
 
 // The request that is shown, and the state after it.
@@ -28,7 +28,7 @@ impl ArbiterState {
         Self {
             prev_output: Action::Nominal,
             prev_reason: Reason::None,
-            recovery_since_ms: OptionU32::None,
+            recovery_since_ms: None,
         }
     }
 
@@ -36,12 +36,9 @@ impl ArbiterState {
     pub fn without_recovery(self) -> Self
         ensures { result ≡ without_recovery self }
     {
-        let a = self.prev_output;
-        let r = self.prev_reason;
         Self {
-            prev_output: a,
-            prev_reason: r,
-            recovery_since_ms: OptionU32::None,
+            recovery_since_ms: None,
+            ..self
         }
     }
 }
@@ -73,21 +70,9 @@ pub fn output_with_latches(
 fn previous(state: ArbiterState) -> Request
     ensures { result ≡ previous state }
 {
-    let a = state.prev_output;
-    let r = state.prev_reason;
     Request {
-        reason: r,
-        action: a,
-    }
-}
-
-// The start of the recovery: now where it had not begun.
-fn recovery_start(since: OptionU32, now_ms: u32) -> u32
-    ensures { result ≡ recovery_start since now_ms }
-{
-    match since {
-        OptionU32::Some(t) => t,
-        OptionU32::None => now_ms,
+        reason: state.prev_reason,
+        action: state.prev_output,
     }
 }
 
@@ -95,28 +80,25 @@ fn recovery_start(since: OptionU32, now_ms: u32) -> u32
 fn recover(state: ArbiterState, now_ms: u32, recovery_hold_ms: u32, wanted: Request) -> Arbitrated
     ensures { result ≡ recover wrapping state now_ms recovery_hold_ms wanted }
 {
-    let s = state.recovery_since_ms;
-    let since = recovery_start(s, now_ms);
+    let since = state.recovery_since_ms.unwrap_or(now_ms);
     if time::hold_met(now_ms, since, recovery_hold_ms) {
-        shown(wanted, OptionU32::None)
+        shown(wanted, None)
     } else {
-        shown(previous(state), OptionU32::Some(since))
+        shown(previous(state), Some(since))
     }
 }
 
 // A request shown, with the recovery's start.
-fn shown(output: Request, since: OptionU32) -> Arbitrated
+fn shown(output: Request, since: Option<u32>) -> Arbitrated
     ensures { result ≡ shown output since }
 {
-    let a = output.action;
-    let r = output.reason;
     Arbitrated {
         state: ArbiterState {
-            prev_output: a,
-            prev_reason: r,
+            prev_output: output.action,
+            prev_reason: output.reason,
             recovery_since_ms: since,
         },
-        output: output,
+        output,
     }
 }
 
@@ -131,13 +113,10 @@ pub fn apply_persistence(
     ensures { result ≡ apply_persistence wrapping state now_ms recovery_hold_ms wanted clock_fault }
 {
     if clock_fault {
-        let since = state.recovery_since_ms;
-        return shown(previous(state), since);
+        return shown(previous(state), state.recovery_since_ms);
     }
-    let a = wanted.action;
-    let b = state.prev_output;
-    if b.rank() <= a.rank() {
-        return shown(wanted, OptionU32::None);
+    if state.prev_output.rank() <= wanted.action.rank() {
+        return shown(wanted, None);
     }
     recover(state, now_ms, recovery_hold_ms, wanted)
 }
@@ -145,28 +124,19 @@ pub fn apply_persistence(
 fn needs_position(a: Action) -> bool
     ensures { result ≡ needs_position a }
 {
-    match a {
-        Action::Hold => true,
-        Action::ReturnToLaunch => true,
-        Action::Nominal => false,
-        Action::Warn => false,
-        Action::Land => false,
-    }
+    matches!(a, Action::Hold | Action::ReturnToLaunch)
 }
 
 // Without a valid position Land stands for Hold and ReturnToLaunch, and ends the recovery.
 pub fn apply_feasibility(a: Arbitrated, position_valid: bool) -> Arbitrated
     ensures { result ≡ apply_feasibility a position_valid }
 {
-    let o = a.output;
-    let action = o.action;
-    let needs = needs_position(action);
-    if needs & !position_valid {
+    if needs_position(a.output.action) & !position_valid {
         let land = Request {
             reason: Reason::PositionInvalid,
             action: Action::Land,
         };
-        return shown(land, OptionU32::None);
+        return shown(land, None);
     }
     a
 }

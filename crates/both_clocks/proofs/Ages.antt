@@ -1,12 +1,7 @@
 -- Telemetry without its upper halves, and the ages of what is read and held. Assumes nothing.
+use Rattle.std.specs.Prelude.{Option, Some, None, Float, Bool}
 use Prim.Native.Nat.{ℕ, ◌%◌, ◌^◌}
 use mathlib.Core.Path.{◌≡◌, refl, sym, subst, ◌∙◌}
-use Rattle.types.specs.declared.OptionU32.{OptionU32}
-use Rattle.types.specs.declared.OptionStampedF32.{OptionStampedF32}
-use Rattle.types.specs.declared.OptionStampedBool.{OptionStampedBool}
-use Rattle.types.specs.declared.OptionStampedLandedState.{OptionStampedLandedState}
-use Rattle.types.specs.declared.OptionPositionSample.{OptionPositionSample}
-use Rattle.types.specs.declared.OptionGpsSample.{OptionGpsSample}
 use Rattle.types.specs.declared.Telemetry.{Telemetry}
 use Rattle.timers.specs.declared.Timer.{Timer}
 use Rattle.supervisor.specs.declared.Supervisor.{Supervisor}
@@ -15,52 +10,56 @@ use Rattle.instants.specs.Own.{own, position_stamp, gps_stamp, value_stamp, flag
 use Rattle.alike.specs.Both.{LowHalf, Young, OfState, OfRead}
 use Rattle.alike.proofs.Own.{own_read, timer_at_lem}
 use Rattle.both_clocks.specs.Claim.{low_stamps, without_upper, Recent, ReadRecent, HeldRecent}
+use Rattle.types.specs.declared.Stamped.{Stamped}
+use Rattle.types.specs.declared.LandedState.{LandedState}
+use Rattle.types.specs.declared.PositionSample.{PositionSample}
+use Rattle.types.specs.declared.GpsSample.{GpsSample}
 
 -- ---- a reading at another stamp: the stamp, and the reading at a third
 
-position_stamp_lem : (k : ℕ) (o : OptionPositionSample) → position_stamp (position_at k o) ≡ instead k (position_stamp o)
-position_stamp_lem k OptionPositionSample.None = refl
-position_stamp_lem k (OptionPositionSample.Some p) = refl
+position_stamp_lem : (k : ℕ) (o : Option PositionSample) → position_stamp (position_at k o) ≡ instead k (position_stamp o)
+position_stamp_lem k None = refl
+position_stamp_lem k (Some p) = refl
 
-gps_stamp_lem : (k : ℕ) (o : OptionGpsSample) → gps_stamp (gps_at k o) ≡ instead k (gps_stamp o)
-gps_stamp_lem k OptionGpsSample.None = refl
-gps_stamp_lem k (OptionGpsSample.Some g) = refl
+gps_stamp_lem : (k : ℕ) (o : Option GpsSample) → gps_stamp (gps_at k o) ≡ instead k (gps_stamp o)
+gps_stamp_lem k None = refl
+gps_stamp_lem k (Some g) = refl
 
-value_stamp_lem : (k : ℕ) (o : OptionStampedF32) → value_stamp (value_at k o) ≡ instead k (value_stamp o)
-value_stamp_lem k OptionStampedF32.None = refl
-value_stamp_lem k (OptionStampedF32.Some t v) = refl
+value_stamp_lem : (k : ℕ) (o : Option (Stamped Float)) → value_stamp (value_at k o) ≡ instead k (value_stamp o)
+value_stamp_lem k None = refl
+value_stamp_lem k (Some r) = refl
 
-flag_stamp_lem : (k : ℕ) (o : OptionStampedBool) → flag_stamp (flag_at k o) ≡ instead k (flag_stamp o)
-flag_stamp_lem k OptionStampedBool.None = refl
-flag_stamp_lem k (OptionStampedBool.Some t v) = refl
+flag_stamp_lem : (k : ℕ) (o : Option (Stamped Bool)) → flag_stamp (flag_at k o) ≡ instead k (flag_stamp o)
+flag_stamp_lem k None = refl
+flag_stamp_lem k (Some r) = refl
 
-landed_stamp_lem : (k : ℕ) (o : OptionStampedLandedState) → landed_stamp (landed_at k o) ≡ instead k (landed_stamp o)
-landed_stamp_lem k OptionStampedLandedState.None = refl
-landed_stamp_lem k (OptionStampedLandedState.Some t v) = refl
+landed_stamp_lem : (k : ℕ) (o : Option (Stamped LandedState)) → landed_stamp (landed_at k o) ≡ instead k (landed_stamp o)
+landed_stamp_lem k None = refl
+landed_stamp_lem k (Some r) = refl
 
-instead_again : (j k : ℕ) (o : OptionU32) → instead j (instead k o) ≡ instead j o
-instead_again j k OptionU32.None = refl
-instead_again j k (OptionU32.Some x) = refl
+instead_again : (j k : ℕ) (o : Option ℕ) → instead j (instead k o) ≡ instead j o
+instead_again j k None = refl
+instead_again j k (Some x) = refl
 
-position_again : (j k : ℕ) (o : OptionPositionSample) → position_at j (position_at k o) ≡ position_at j o
-position_again j k OptionPositionSample.None = refl
-position_again j k (OptionPositionSample.Some p) = refl
+position_again : (j k : ℕ) (o : Option PositionSample) → position_at j (position_at k o) ≡ position_at j o
+position_again j k None = refl
+position_again j k (Some p) = refl
 
-gps_again : (j k : ℕ) (o : OptionGpsSample) → gps_at j (gps_at k o) ≡ gps_at j o
-gps_again j k OptionGpsSample.None = refl
-gps_again j k (OptionGpsSample.Some g) = refl
+gps_again : (j k : ℕ) (o : Option GpsSample) → gps_at j (gps_at k o) ≡ gps_at j o
+gps_again j k None = refl
+gps_again j k (Some g) = refl
 
-value_again : (j k : ℕ) (o : OptionStampedF32) → value_at j (value_at k o) ≡ value_at j o
-value_again j k OptionStampedF32.None = refl
-value_again j k (OptionStampedF32.Some t v) = refl
+value_again : (j k : ℕ) (o : Option (Stamped Float)) → value_at j (value_at k o) ≡ value_at j o
+value_again j k None = refl
+value_again j k (Some r) = refl
 
-flag_again : (j k : ℕ) (o : OptionStampedBool) → flag_at j (flag_at k o) ≡ flag_at j o
-flag_again j k OptionStampedBool.None = refl
-flag_again j k (OptionStampedBool.Some t v) = refl
+flag_again : (j k : ℕ) (o : Option (Stamped Bool)) → flag_at j (flag_at k o) ≡ flag_at j o
+flag_again j k None = refl
+flag_again j k (Some r) = refl
 
-landed_again : (j k : ℕ) (o : OptionStampedLandedState) → landed_at j (landed_at k o) ≡ landed_at j o
-landed_again j k OptionStampedLandedState.None = refl
-landed_again j k (OptionStampedLandedState.Some t v) = refl
+landed_again : (j k : ℕ) (o : Option (Stamped LandedState)) → landed_at j (landed_at k o) ≡ landed_at j o
+landed_again j k None = refl
+landed_again j k (Some r) = refl
 
 read_again : (j k : Stamps) (t : Telemetry) → telemetry_at j (telemetry_at k t) ≡ telemetry_at j t
 unfolding telemetry_at
@@ -88,22 +87,22 @@ upper_back t = read_again (stamps_of t) (low_stamps (stamps_of t)) t ∙ own_rea
 
 -- ---- low halves and ages, of an instant
 
-low_own : (o : OptionU32) → LowHalf (own o) (instead (own o % 2 ^ 32) o)
-low_own OptionU32.None = tt
-low_own (OptionU32.Some x) = refl
+low_own : (o : Option ℕ) → LowHalf (own o) (instead (own o % 2 ^ 32) o)
+low_own None = tt
+low_own (Some x) = refl
 
-young_own : (now k : ℕ) (o : OptionU32) → Recent now o → Young now (own o) (instead k o)
-young_own now k OptionU32.None h = tt
-young_own now k (OptionU32.Some x) h = h
+young_own : (now k : ℕ) (o : Option ℕ) → Recent now o → Young now (own o) (instead k o)
+young_own now k None h = tt
+young_own now k (Some x) h = h
 
-young_held : (now x : ℕ) (o : OptionU32) → Recent now (instead x o) → Young now x o
-young_held now x OptionU32.None h = tt
-young_held now x (OptionU32.Some y) h = h
+young_held : (now x : ℕ) (o : Option ℕ) → Recent now (instead x o) → Young now x o
+young_held now x None h = tt
+young_held now x (Some y) h = h
 
 -- ---- of all that is read
 
 -- what holds of each stamp beside its low half, from what holds of the stamp
-module _ (P : ℕ → OptionU32 → Type 0) (Q : OptionU32 → Type 0) (each : (o : OptionU32) → Q o → P (own o) (instead (own o % 2 ^ 32) o)) (t : Telemetry) where
+module _ (P : ℕ → Option ℕ → Type 0) (Q : Option ℕ → Type 0) (each : (o : Option ℕ) → Q o → P (own o) (instead (own o % 2 ^ 32) o)) (t : Telemetry) where
   of_read : Q (position_stamp t.position) → Q (gps_stamp t.gps) → Q (value_stamp t.battery.voltage_v) → Q (value_stamp t.battery.percent) → Q (value_stamp t.battery.remaining_wh) → Q t.gcs_heartbeat_ms → Q (flag_stamp t.armed) → Q (landed_stamp t.landed) → Q (flag_stamp t.rc_ok) → Q (flag_stamp t.ekf_ok) → OfRead P (without_upper t) (stamps_of t)
   unfolding telemetry_at stamps_of low_stamps
   of_read p g v c w h a l r e =

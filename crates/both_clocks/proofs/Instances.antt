@@ -1,4 +1,5 @@
 -- The runs, computed: each meets all that is asked but one thing, and a byte of the latest outputs differs. Assumes nothing.
+use Rattle.std.specs.Prelude.{Option, Some, None}
 use Prim.Native.Nat.{ℕ, ◌+◌, ◌-◌, ◌^◌, ◌<◌}
 use mathlib.Core.Bool.{Bool, true, false, ◌&&◌, ◌||◌}
 use mathlib.Core.List.{List, [], ◌∷◌, map}
@@ -50,7 +51,6 @@ use Rattle.areas.specs.Clearance.{clearance}
 use Rattle.frame_areas.specs.AreaFrame.{corners_sent as area_corners, area_rules, distance_at}
 use Rattle.frame_areas.specs.AreasFrame.{bodies, held_in, bodies_fit, counts_fit, areas_frame_fault, areas_fault, bodies_of, clearance_at}
 use Rattle.types.specs.declared.Action.{Action}
-use Rattle.types.specs.declared.OptionU32.{OptionU32}
 use Rattle.types.specs.declared.Telemetry.{Telemetry}
 use Rattle.supervisor.specs.declared.Supervisor.{Supervisor}
 use Rattle.wire.proofs.Whole.{first, second, Each, each}
@@ -72,16 +72,16 @@ use Rattle.both_clocks.proofs.Claim.{both_clocks_claim}
 
 -- ---- what is asked, by tests
 
-recent_test : ℕ → OptionU32 → Bool
-recent_test now OptionU32.None = true
-recent_test now (OptionU32.Some x) = leb x now && ltb now (x + 2 ^ 31)
+recent_test : ℕ → Option ℕ → Bool
+recent_test now None = true
+recent_test now (Some x) = leb x now && ltb now (x + 2 ^ 31)
 
-recent : (now : ℕ) (o : OptionU32) → recent_test now o ≡ true → Recent now o
+recent : (now : ℕ) (o : Option ℕ) → recent_test now o ≡ true → Recent now o
 unfolding recent_test
-recent now OptionU32.None e = tt
-recent now (OptionU32.Some x) e = (leb-true x now (first (leb x now) (ltb now (x + 2 ^ 31)) e), ltb-true now (x + 2 ^ 31) (second (leb x now) (ltb now (x + 2 ^ 31)) e))
+recent now None e = tt
+recent now (Some x) e = (leb-true x now (first (leb x now) (ltb now (x + 2 ^ 31)) e), ltb-true now (x + 2 ^ 31) (second (leb x now) (ltb now (x + 2 ^ 31)) e))
 
-unless : (b : Bool) (now : ℕ) (o : OptionU32) → (b || recent_test now o) ≡ true → Unless b (Recent now o)
+unless : (b : Bool) (now : ℕ) (o : Option ℕ) → (b || recent_test now o) ≡ true → Unless b (Recent now o)
 unless true now o e = tt
 unless false now o e = recent now o e
 

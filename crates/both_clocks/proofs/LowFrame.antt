@@ -1,4 +1,5 @@
 -- A kind 9's bytes as a kind 3 with the low halves of its instants. Assumes nothing.
+use Rattle.std.specs.Prelude.{Option, Some, None, Float}
 use Prim.Native.Nat.{ℕ, zero, suc, ◌%◌, ◌^◌, ◌<◌}
 use native.Mathlib.Omega.{arith}
 use mathlib.Core.Bool.{Bool, true, false, cond}
@@ -7,12 +8,6 @@ use mathlib.Core.Path.{◌≡◌, refl, ap, sym, ◌∙◌}
 use borrow.Author.Tests.{eqb-true}
 use lib.Dec.{eqb, lit<}
 use lib.ListN.{get_or, replicate}
-use Rattle.types.specs.declared.OptionU32.{OptionU32}
-use Rattle.types.specs.declared.OptionStampedF32.{OptionStampedF32}
-use Rattle.types.specs.declared.OptionStampedBool.{OptionStampedBool}
-use Rattle.types.specs.declared.OptionStampedLandedState.{OptionStampedLandedState}
-use Rattle.types.specs.declared.OptionPositionSample.{OptionPositionSample}
-use Rattle.types.specs.declared.OptionGpsSample.{OptionGpsSample}
 use Rattle.types.specs.declared.Telemetry.{Telemetry}
 use Rattle.wire.specs.Frame.{frame_fault}
 use Rattle.frame_telemetry.specs.declared.TelemetryRead.{TelemetryRead}
@@ -24,32 +19,36 @@ use Rattle.frame_wide.specs.WideTelemetry.{telemetry_on, wide_stamps, with_stamp
 use Rattle.frame_wide_trips.specs.Claim.{Words}
 use Rattle.frame_wide_trips.proofs.Claim.{telemetry_laws}
 use Rattle.both_clocks.specs.Claim.{low_stamps, without_upper, low_frame, LowFrameClaim}
+use Rattle.types.specs.declared.Stamped.{Stamped}
+use Rattle.types.specs.declared.LandedState.{LandedState}
+use Rattle.types.specs.declared.PositionSample.{PositionSample}
+use Rattle.types.specs.declared.GpsSample.{GpsSample}
 
 -- ---- a reading at a stamp, without its upper half
 
-instead_low : (j : ℕ) (o : OptionU32) → instead (own (instead j o) % 2 ^ 32) (instead j o) ≡ instead (j % 2 ^ 32) o
-instead_low j OptionU32.None = refl
-instead_low j (OptionU32.Some x) = refl
+instead_low : (j : ℕ) (o : Option ℕ) → instead (own (instead j o) % 2 ^ 32) (instead j o) ≡ instead (j % 2 ^ 32) o
+instead_low j None = refl
+instead_low j (Some x) = refl
 
-position_low : (j : ℕ) (o : OptionPositionSample) → position_at (own (position_stamp (position_at j o)) % 2 ^ 32) (position_at j o) ≡ position_at (j % 2 ^ 32) o
-position_low j OptionPositionSample.None = refl
-position_low j (OptionPositionSample.Some p) = refl
+position_low : (j : ℕ) (o : Option PositionSample) → position_at (own (position_stamp (position_at j o)) % 2 ^ 32) (position_at j o) ≡ position_at (j % 2 ^ 32) o
+position_low j None = refl
+position_low j (Some p) = refl
 
-gps_low : (j : ℕ) (o : OptionGpsSample) → gps_at (own (gps_stamp (gps_at j o)) % 2 ^ 32) (gps_at j o) ≡ gps_at (j % 2 ^ 32) o
-gps_low j OptionGpsSample.None = refl
-gps_low j (OptionGpsSample.Some g) = refl
+gps_low : (j : ℕ) (o : Option GpsSample) → gps_at (own (gps_stamp (gps_at j o)) % 2 ^ 32) (gps_at j o) ≡ gps_at (j % 2 ^ 32) o
+gps_low j None = refl
+gps_low j (Some g) = refl
 
-value_low : (j : ℕ) (o : OptionStampedF32) → value_at (own (value_stamp (value_at j o)) % 2 ^ 32) (value_at j o) ≡ value_at (j % 2 ^ 32) o
-value_low j OptionStampedF32.None = refl
-value_low j (OptionStampedF32.Some t v) = refl
+value_low : (j : ℕ) (o : Option (Stamped Float)) → value_at (own (value_stamp (value_at j o)) % 2 ^ 32) (value_at j o) ≡ value_at (j % 2 ^ 32) o
+value_low j None = refl
+value_low j (Some r) = refl
 
-flag_low : (j : ℕ) (o : OptionStampedBool) → flag_at (own (flag_stamp (flag_at j o)) % 2 ^ 32) (flag_at j o) ≡ flag_at (j % 2 ^ 32) o
-flag_low j OptionStampedBool.None = refl
-flag_low j (OptionStampedBool.Some t v) = refl
+flag_low : (j : ℕ) (o : Option (Stamped Bool)) → flag_at (own (flag_stamp (flag_at j o)) % 2 ^ 32) (flag_at j o) ≡ flag_at (j % 2 ^ 32) o
+flag_low j None = refl
+flag_low j (Some r) = refl
 
-landed_low : (j : ℕ) (o : OptionStampedLandedState) → landed_at (own (landed_stamp (landed_at j o)) % 2 ^ 32) (landed_at j o) ≡ landed_at (j % 2 ^ 32) o
-landed_low j OptionStampedLandedState.None = refl
-landed_low j (OptionStampedLandedState.Some t v) = refl
+landed_low : (j : ℕ) (o : Option (Stamped LandedState)) → landed_at (own (landed_stamp (landed_at j o)) % 2 ^ 32) (landed_at j o) ≡ landed_at (j % 2 ^ 32) o
+landed_low j None = refl
+landed_low j (Some r) = refl
 
 low_at_lem : (j : Stamps) (u : Telemetry) → without_upper (telemetry_at j u) ≡ telemetry_at (low_stamps j) u
 unfolding telemetry_at stamps_of low_stamps

@@ -1,4 +1,5 @@
 -- What is carried over, and that it is a start for both clocks. Assumes nothing.
+use Rattle.std.specs.Prelude.{Option, Some, None, unwrap_or}
 use Prim.Native.Nat.{ℕ, ◌-◌, ◌%◌, ◌^◌, ◌≤◌, ◌<◌}
 use mathlib.Core.Bool.{Bool, true, false, ◌&&◌, cond, false≢true}
 use mathlib.Core.List.{List, [], ◌∷◌, ◌++◌}
@@ -8,8 +9,6 @@ use lib.ListN.{length, take, drop}
 use lib.Seq.{take-append-le, take-length}
 use native.Mathlib.Omega.{arith}
 use borrow.Author.Tests.{eqb-true, eqb-false, leb-true}
-use Rattle.types.specs.declared.OptionU32.{OptionU32}
-use Rattle.types.specs.declared.OptionPositionSample.{OptionPositionSample}
 use Rattle.time.specs.Time.{wrapping, wrapping_sub, age, at_most}
 use Rattle.timers.specs.declared.Timer.{Timer}
 use Rattle.triggers.specs.declared.TriggerState.{TriggerState}
@@ -19,7 +18,6 @@ use Rattle.wire.specs.Cell.{Within}
 use Rattle.wire.specs.Fields.{Bytes}
 use Rattle.wire.specs.Frame.{frame_fault, room_fault, frame_written}
 use Rattle.wire.proofs.Whole.{Each, each}
-use Rattle.options.specs.Options.{u32_or_zero}
 use Rattle.options.specs.Position.{position_cells}
 use Rattle.frame_state.specs.declared.StateRead.{StateRead}
 use Rattle.frame_state.specs.StateFrame.{state_at, state_valid, raised_read, raised_valid, read_state, state_frame, timer_cells, Typed}
@@ -37,6 +35,7 @@ use Rattle.calls.specs.Entry.{FreshCall}
 use Rattle.carry.specs.Carry.{last_is, last_of, has_age, timer_has_age, have_ages, carried_held, carried, widened}
 use Rattle.calls.specs.Widen.{after_old, widen_call}
 use Rattle.both_clocks.specs.Claim.{wide_bytes, StartClaim}
+use Rattle.types.specs.declared.PositionSample.{PositionSample}
 
 -- ---- an old state that is not refused is read
 
@@ -83,27 +82,27 @@ carries T s new z = at (last_is T s.last_now) (have_ages T s) (ltb (length new) 
 
 -- ---- of each instant
 
-of_last : (T : ℕ) (o : OptionU32) → last_is T o ≡ true → T % 2 ^ 32 ≡ own o
-of_last T OptionU32.None e = absurd (false≢true e)
-of_last T (OptionU32.Some last) e = eqb-true (T % 2 ^ 32) last e
+of_last : (T : ℕ) (o : Option ℕ) → last_is T o ≡ true → T % 2 ^ 32 ≡ own o
+of_last T None e = absurd (false≢true e)
+of_last T (Some last) e = eqb-true (T % 2 ^ 32) last e
 
-carried_last : (T : ℕ) (o : OptionU32) → last_is T o ≡ true → u32_or_zero o < 2 ^ 32 → CarriedOver T (own o) T o
+carried_last : (T : ℕ) (o : Option ℕ) → last_is T o ≡ true → unwrap_or o 0 < 2 ^ 32 → CarriedOver T (own o) T o
 unfolding wrapping_sub
-carried_last T OptionU32.None e h = absurd (false≢true e)
-carried_last T (OptionU32.Some last) e h = (h, omega arith, omega arith)
+carried_last T None e h = absurd (false≢true e)
+carried_last T (Some last) e h = (h, omega arith, omega arith)
 
-carried_one : (T : ℕ) (s : Supervisor) (o : OptionU32) → has_age T s o ≡ true → u32_or_zero o < 2 ^ 32 → CarriedOver T (last_of T s) (carried_held T s o) o
+carried_one : (T : ℕ) (s : Supervisor) (o : Option ℕ) → has_age T s o ≡ true → unwrap_or o 0 < 2 ^ 32 → CarriedOver T (last_of T s) (carried_held T s o) o
 unfolding age
-carried_one T s OptionU32.None e h = tt
-carried_one T s (OptionU32.Some x) e h = (h, at (ltb (wrapping_sub (last_of T s) x) (2 ^ 31)) e, refl)
+carried_one T s None e h = tt
+carried_one T s (Some x) e h = (h, at (ltb (wrapping_sub (last_of T s) x) (2 ^ 31)) e, refl)
   where
-    at : (b : Bool) → at_most (cond b (OptionU32.Some (wrapping_sub (last_of T s) x)) OptionU32.None) T ≡ true → wrapping_sub (last_of T s) x ≤ T
+    at : (b : Bool) → at_most (cond b (Some (wrapping_sub (last_of T s) x)) None) T ≡ true → wrapping_sub (last_of T s) x ≤ T
     at true e = leb-true (wrapping_sub (last_of T s) x) T e
     at false e = absurd (false≢true e)
 
 -- ---- of every instant
 
-timer_small : (t : TriggerState) → Within (timer_cells t) → (n : TimerName) → u32_or_zero (timer_of t n).since_ms < 2 ^ 32
+timer_small : (t : TriggerState) → Within (timer_cells t) → (n : TimerName) → unwrap_or (timer_of t n).since_ms 0 < 2 ^ 32
 timer_small t w gcs_clear = w.0
 timer_small t w rc_clear = w.1.0
 timer_small t w gps_deg_set = w.1.1.0
@@ -196,9 +195,9 @@ timer_aged T s e rc_set = (all_aged T s e).1.1.1.1.1.1.1.1.1.1.1.1.1.1.1.1.1.1.1
 rest_aged : (T : ℕ) (s : Supervisor) → have_ages T s ≡ true → (has_age T s s.arbiter.recovery_since_ms ≡ true) × ((has_age T s s.disarm.hold_since_ms ≡ true) × (has_age T s (position_stamp s.glitch.last_accepted) ≡ true))
 rest_aged T s e = let r = (all_aged T s e).1.1.1.1.1.1.1.1.1.1.1.1.1.1.1.1.1.1.1.1.1.1.1.1.1 in (r.0, (r.1.0, r.1.1.0))
 
-stored_small : (o : OptionPositionSample) → Within (position_cells o) → u32_or_zero (position_stamp o) < 2 ^ 32
-stored_small OptionPositionSample.None w = lit< tt
-stored_small (OptionPositionSample.Some p) w = w.0
+stored_small : (o : Option PositionSample) → Within (position_cells o) → unwrap_or (position_stamp o) 0 < 2 ^ 32
+stored_small None w = lit< tt
+stored_small (Some p) w = w.0
 
 carried_over : (T : ℕ) (s : Supervisor) → Typed s → last_is T s.last_now ≡ true → have_ages T s ≡ true → OfState (CarriedOver T (last_of T s)) s (carried T s)
 unfolding carried
@@ -214,9 +213,9 @@ carried_over T s h l e =
 
 -- ---- what is carried over is within its types and rules
 
-unstamped : (n : ℕ) (p : OptionPositionSample) → Within (position_cells p) → Within (position_cells (position_at 0 (position_at n p)))
-unstamped n OptionPositionSample.None w = w
-unstamped n (OptionPositionSample.Some p) w = (lit< tt, w.1)
+unstamped : (n : ℕ) (p : Option PositionSample) → Within (position_cells p) → Within (position_cells (position_at 0 (position_at n p)))
+unstamped n None w = w
+unstamped n (Some p) w = (lit< tt, w.1)
 
 epoch_lt : (T w : ℕ) (b : Bool) → T < 2 ^ 64 → cond b (T - w) T < 2 ^ 64
 epoch_lt T w true h = omega arith
@@ -240,9 +239,9 @@ carried_typed T s t h =
       epoch = epoch_lt T (wrapping_sub (last_of T s) s.epoch_start) (at_most (age wrapping (last_of T s) s.epoch_start) T) t;
     }
 
-finite_at : (n : ℕ) (o : OptionPositionSample) → finite_stored (position_at n o) ≡ finite_stored o
-finite_at n OptionPositionSample.None = refl
-finite_at n (OptionPositionSample.Some p) = refl
+finite_at : (n : ℕ) (o : Option PositionSample) → finite_stored (position_at n o) ≡ finite_stored o
+finite_at n None = refl
+finite_at n (Some p) = refl
 
 rules_at : (i : Instants) (s : Supervisor) → Rules s → Rules (supervisor_at i s)
 unfolding supervisor_at triggers_at

@@ -1,7 +1,6 @@
 -- Document 02, L7, about the bytes that the C host hands over: a 32-bit state is carried over, and "from then on .. both clocks .. yield the same Decisions".
 -- Lists have the latest pair of calls first. Assumes nothing.
-use Rattle.std.specs.Prelude.{ℕ, ◌+◌, ◌%◌, ◌^◌, ◌≤◌, ◌<◌, false, List, [], ◌∷◌, ◌⊎◌, ◌≡◌, eqb, take}
-use Rattle.types.specs.declared.OptionU32.{OptionU32}
+use Rattle.std.specs.Prelude.{ℕ, ◌+◌, ◌%◌, ◌^◌, ◌≤◌, ◌<◌, false, List, [], ◌∷◌, ◌⊎◌, ◌≡◌, eqb, take, Option, Some, None}
 use Rattle.types.specs.declared.Telemetry.{Telemetry}
 use Rattle.supervisor.specs.declared.Supervisor.{Supervisor}
 use Rattle.wire.specs.Fields.{Bytes}
@@ -55,9 +54,9 @@ LowFrameClaim = (s : List ℕ) (t : Telemetry) → read_wide_telemetry s ≡ Tel
 -- ---- ages, on the 64-bit clock
 
 -- an instant, where there is one, is not ahead of the reading, and its age is under 2^31
-abbrev pub Recent : ℕ → OptionU32 → Type 0
-Recent now OptionU32.None = Unit {0}
-Recent now (OptionU32.Some x) = (x ≤ now) × (now < x + 2 ^ 31)
+abbrev pub Recent : ℕ → Option ℕ → Type 0
+Recent now None = Unit {0}
+Recent now (Some x) = (x ≤ now) × (now < x + 2 ^ 31)
 
 -- "no stamp is ahead of its reading and every age .. is under 2^31", of what is read
 pub record ReadRecent (t : Telemetry) : Type 0 where

@@ -1,15 +1,10 @@
 -- Each premise on what is held is needed: without it a run refutes the claim, a timer, the recovery start, the disarm hold, the stored sample's stamp and
 -- last_now in turn. And a run that meets them all. Lists have the latest pair of calls first. Assumes nothing.
-use Rattle.std.specs.Prelude.{ℕ, ◌+◌, ◌-◌, ◌^◌, Bool, true, false, List, [], ◌∷◌, map, ◌≡◌, eqb, replicate}
+use Rattle.std.specs.Prelude.{ℕ, ◌+◌, ◌-◌, ◌^◌, Bool, true, false, List, [], ◌∷◌, map, ◌≡◌, eqb, replicate, Option, Some, None}
 use Rattle.std.specs.Float.Ieee.{neg}
 use Rattle.types.specs.declared.Action.{Action}
 use Rattle.types.specs.declared.Reason.{Reason}
 use Rattle.types.specs.declared.LandedState.{LandedState}
-use Rattle.types.specs.declared.OptionU32.{OptionU32}
-use Rattle.types.specs.declared.OptionGpsSample.{OptionGpsSample}
-use Rattle.types.specs.declared.OptionPositionSample.{OptionPositionSample}
-use Rattle.types.specs.declared.OptionStampedBool.{OptionStampedBool}
-use Rattle.types.specs.declared.OptionStampedLandedState.{OptionStampedLandedState}
 use Rattle.types.specs.declared.Telemetry.{Telemetry}
 use Rattle.config.specs.Default.{decimal}
 use Rattle.timers.specs.Timer.{cleared}
@@ -26,6 +21,7 @@ use Rattle.calls.specs.Widen.{widen_call}
 use Rattle.run.specs.Run.{Call, shown_action}
 use Rattle.run.specs.Instances.{config, fence, in_flight, blind}
 use Rattle.both_clocks.specs.Claim.{without_upper, Recent, HeldRecent, Pair, narrow_outputs, wide_outputs, BothClocks, Meets, ClaimUnder}
+use Rattle.types.specs.declared.PositionSample.{PositionSample}
 
 -- asked but for one place
 abbrev pub Unless : Bool → Type 0 → Type 0
@@ -50,7 +46,7 @@ pub record NeededClaim : Type 0 where
 -- ---- the runs, all under the default configuration and fence
 
 -- nothing but these is held: gps_lost_set, the previous output with the recovery start, the disarm hold, the stored sample and last_now
-unfoldable pub holding : OptionU32 → Action → OptionU32 → OptionU32 → OptionPositionSample → ℕ → Supervisor
+unfoldable pub holding : Option ℕ → Action → Option ℕ → Option ℕ → Option PositionSample → ℕ → Supervisor
 holding lost output recovery gate stored last =
     record {
       triggers =
@@ -89,7 +85,7 @@ holding lost output recovery gate stored last =
       arbiter = record { prev_output = output; prev_reason = Reason.None; recovery_since_ms = recovery };
       disarm = record { hold_since_ms = gate };
       glitch = record { last_accepted = stored; reject_streak = 0 };
-      last_now = OptionU32.Some last;
+      last_now = Some last;
       epoch_start = 0;
       backwards_streak = 0;
       initialized = true;
@@ -101,19 +97,19 @@ no_gps now =
     record {
       now_ms = now;
       position = (in_flight now true).position;
-      gps = OptionGpsSample.None;
+      gps = None;
       battery = (in_flight now true).battery;
-      gcs_heartbeat_ms = OptionU32.Some now;
-      armed = OptionStampedBool.Some now true;
-      landed = OptionStampedLandedState.Some now LandedState.OnGround;
-      rc_ok = OptionStampedBool.Some now true;
-      ekf_ok = OptionStampedBool.Some now true;
+      gcs_heartbeat_ms = Some now;
+      armed = Some (record { t_ms = now; value = true });
+      landed = Some (record { t_ms = now; value = LandedState.OnGround });
+      rc_ok = Some (record { t_ms = now; value = true });
+      ekf_ok = Some (record { t_ms = now; value = true });
     }
 
 -- a sample a kilometre north of home, taken at 0
-abbrev pub far : OptionPositionSample
+abbrev pub far : Option PositionSample
 far =
-    OptionPositionSample.Some
+    Some
     (record {
       t_ms = 0;
       pos = record { n = decimal 1000 1; e = decimal 0 1; d = neg (decimal 30 1) };
@@ -133,35 +129,35 @@ pair_of t = record { narrow = called (telemetry_frame (without_upper t)); wide =
 
 -- an old state, T and the pairs after it. At an age of 2^31 of the timer the 64-bit clock shows Land, the other Nominal
 abbrev pub timer_state : Supervisor
-timer_state = holding (OptionU32.Some 0) Action.Nominal OptionU32.None OptionU32.None OptionPositionSample.None latest
+timer_state = holding (Some 0) Action.Nominal None None None latest
 
 abbrev pub timer_run : List Pair
 timer_run = pair_of (no_gps (2 ^ 31)) ∷ []
 
 -- of the recovery start: Nominal, the other Warn
 abbrev pub recovery_state : Supervisor
-recovery_state = holding OptionU32.None Action.Warn (OptionU32.Some 0) OptionU32.None OptionPositionSample.None latest
+recovery_state = holding None Action.Warn (Some 0) None None latest
 
 abbrev pub recovery_run : List Pair
 recovery_run = pair_of (in_flight (2 ^ 31) true) ∷ []
 
 -- of the disarm hold: eligible, the other not
 abbrev pub gate_state : Supervisor
-gate_state = holding (OptionU32.Some (2 ^ 31 - 3000)) Action.Nominal OptionU32.None (OptionU32.Some 0) OptionPositionSample.None latest
+gate_state = holding (Some (2 ^ 31 - 3000)) Action.Nominal None (Some 0) None latest
 
 abbrev pub gate_run : List Pair
 gate_run = pair_of (no_gps (2 ^ 31)) ∷ []
 
 -- at an age of 2^32 of the stored sample: the position is valid, the other's is a jump in no time
 abbrev pub stored_state : Supervisor
-stored_state = holding OptionU32.None Action.Nominal OptionU32.None OptionU32.None far latest
+stored_state = holding None Action.Nominal None None far latest
 
 abbrev pub stored_run : List Pair
 stored_run = pair_of (in_flight (2 ^ 32) true) ∷ pair_of (blind (2 ^ 32 - 2)) ∷ []
 
 -- at a gap of 2^31 between readings: sound, the other faulted
 abbrev pub last_state : Supervisor
-last_state = holding OptionU32.None Action.Nominal OptionU32.None OptionU32.None OptionPositionSample.None 0
+last_state = holding None Action.Nominal None None None 0
 
 abbrev pub last_run : List Pair
 last_run = pair_of (blind (2 ^ 31)) ∷ []
@@ -177,7 +173,7 @@ slice = replicate 306 0
 
 -- T is ten below 2^33; the recovery began 3990 ms earlier
 abbrev pub met_state : Supervisor
-met_state = holding (OptionU32.Some (2 ^ 32 - 4000)) Action.Warn (OptionU32.Some (2 ^ 32 - 4000)) (OptionU32.Some (2 ^ 32 - 4000)) OptionPositionSample.None (2 ^ 32 - 10)
+met_state = holding (Some (2 ^ 32 - 4000)) Action.Warn (Some (2 ^ 32 - 4000)) (Some (2 ^ 32 - 4000)) None (2 ^ 32 - 10)
 
 abbrev pub met_t : ℕ
 met_t = 2 ^ 33 - 10

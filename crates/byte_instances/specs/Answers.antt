@@ -13,13 +13,13 @@ before = 7 ∷ 7 ∷ 7 ∷ 7 ∷ 7 ∷ 7 ∷ []
 abbrev pub near_home : Return
 near_home =
     record {
-      «square» = 2;
-      «climb» = 0;
-      «descent» = 0;
+      square = 2;
+      climb = 0;
+      descent = 0;
       power_climb = 0;
       power_cruise = 1000;
       power_descent = 0;
-      «wind» = 1000;
+      wind = 1000;
       speed_climb = 1;
       speed_cruise = 1;
       speed_descent = 1;

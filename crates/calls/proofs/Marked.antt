@@ -1,4 +1,5 @@
 -- A call on frames of kinds 10 and 9 is the 32-bit call on their marks, with each instant put back. Assumes nothing.
+use Rattle.std.specs.Prelude.{Option, Some, None, Float, is_some}
 use Prim.Native.Nat.{ℕ, zero, suc, ◌^◌, ◌<◌}
 use mathlib.Core.Bool.{Bool, true, false, ◌&&◌, cond}
 use mathlib.Core.List.{List, [], ◌∷◌, ◌++◌}
@@ -6,8 +7,6 @@ use mathlib.Core.Path.{◌≡◌, refl, ap, sym, ◌∙◌}
 use lib.Dec.{eqb, ltb, lit<}
 use lib.ListN.{length, drop, get_or, replicate}
 use borrow.Author.Tests.{eq-eqb}
-use Rattle.types.specs.declared.OptionU32.{OptionU32}
-use Rattle.types.specs.declared.OptionF32.{OptionF32}
 use Rattle.types.specs.declared.Telemetry.{Telemetry}
 use Rattle.types.specs.declared.Decision.{Decision}
 use Rattle.time.specs.Time.{plain}
@@ -19,7 +18,7 @@ use Rattle.supervisor.specs.Settings.{Site, base_settings, fence_site_by, with_a
 use Rattle.supervisor.specs.Step.{step}
 use Rattle.wire.specs.Fields.{u8_at, flag_at, u32_at, le_flag, le8, le16, le32, le_bytes, le_f32}
 use Rattle.wire.specs.Frame.{frame_fault, frame_head}
-use Rattle.options.specs.Options.{option_u32_at, is_some_f32, le_option_u32, le_option_f32}
+use Rattle.options.specs.Options.{option_u32_at, le_option_u32, le_option_f32}
 use Rattle.options.specs.Position.{le_vec3, le_option_position}
 use Rattle.options.specs.Enums.{le_action, le_reason}
 use Rattle.frame_state.specs.declared.StateRead.{StateRead}
@@ -95,13 +94,13 @@ telemetry_is s t h = sym (value_is s) ∙ ap (value_or (narrow.telemetry_at s)) 
 
 -- ---- an instant put in where there is one
 
-instead_cond : (b : Bool) (h x : ℕ) → cond b (OptionU32.Some h) OptionU32.None ≡ instead h (cond b (OptionU32.Some x) OptionU32.None)
+instead_cond : (b : Bool) (h x : ℕ) → cond b (Some h) None ≡ instead h (cond b (Some x) None)
 instead_cond true h x = refl
 instead_cond false h x = refl
 
-instead_twice : (h x : ℕ) (o : OptionU32) → instead h (instead x o) ≡ instead h o
-instead_twice h x OptionU32.None = refl
-instead_twice h x (OptionU32.Some y) = refl
+instead_twice : (h x : ℕ) (o : Option ℕ) → instead h (instead x o) ≡ instead h o
+instead_twice h x None = refl
+instead_twice h x (Some y) = refl
 
 -- ---- a row of marks is 30 words, or 11
 
@@ -116,14 +115,14 @@ flag_is : (b : Bool) → b ≡ eqb (cond b 1 0) 1
 flag_is true = refl
 flag_is false = refl
 
-present_is : (o : OptionF32) → is_present o ≡ is_some_f32 o
-present_is OptionF32.None = refl
-present_is (OptionF32.Some x) = refl
+present_is : (o : Option Float) → is_present o ≡ is_some o
+present_is None = refl
+present_is (Some x) = refl
 
 has_distance_lem : (with_side : Bool) (d : Decision) (side : ℕ) (rest : List ℕ) → is_present d.fence_dist_m ≡ has_distance (output_frame with_side d side ++ rest)
 unfolding flag_at u8_at side_frame decision_frame frame_head le16 le_bytes le_action le_reason le8 le_slots le_slot le_flag le_estimate le_f32 le32 le_option_f32
-has_distance_lem false d side rest = present_is d.fence_dist_m ∙ flag_is (is_some_f32 d.fence_dist_m)
-has_distance_lem true d side rest = present_is d.fence_dist_m ∙ flag_is (is_some_f32 d.fence_dist_m)
+has_distance_lem false d side rest = present_is d.fence_dist_m ∙ flag_is (is_some d.fence_dist_m)
+has_distance_lem true d side rest = present_is d.fence_dist_m ∙ flag_is (is_some d.fence_dist_m)
 
 has_fault_lem : (with_side : Bool) (d : Decision) (side : ℕ) (rest : List ℕ) → d.clock_fault ≡ has_fault (output_frame with_side d side ++ rest)
 unfolding flag_at u8_at side_frame decision_frame frame_head le16 le_bytes le_action le_reason le8 le_slots le_slot le_flag le_estimate le_f32 le32 le_option_f32

@@ -1,6 +1,5 @@
 -- Helpers of a step on a kind 10 state: the flight with marked durations, and the kind 10 after the step. Assumes nothing.
-use Rattle.std.specs.Prelude.{ℕ, Bool, false, ◌&&◌, cond, List, ◌++◌, ◌≡◌, eqb, drop}
-use Rattle.types.specs.declared.OptionU32.{OptionU32}
+use Rattle.std.specs.Prelude.{ℕ, Bool, false, ◌&&◌, cond, List, ◌++◌, ◌≡◌, eqb, drop, Some, None}
 use Rattle.time.specs.Time.{plain}
 use Rattle.triggers.specs.Families.{gcs_age}
 use Rattle.wire.specs.Fields.{u8_at, flag_at}
@@ -55,7 +54,7 @@ module _ (with_side : Bool) (f : Flight) (areas state telemetry output : List �
   low_telemetry = telemetry_on (stamps_listed (stamp_marks_of f.cfg stamps_read)) telemetry
 
   abbrev pub heartbeat_age : ℕ
-  heartbeat_age = gcs_age plain stamps_read.now (cond (flag_at low_telemetry 77) (OptionU32.Some stamps_read.heartbeat) OptionU32.None)
+  heartbeat_age = gcs_age plain stamps_read.now (cond (flag_at low_telemetry 77) (Some stamps_read.heartbeat) None)
 
   abbrev pub low_call : StepCall
   low_call = from_state with_side (base false) (marked_flight f heartbeat_age) areas low_state low_telemetry output

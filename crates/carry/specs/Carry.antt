@@ -1,6 +1,5 @@
 -- Document 02, L7: "A running 32-bit state is carried over without landing. The host gives the last sound reading T in 64 bits". Assumes nothing.
-use Rattle.std.specs.Prelude.{ℕ, ◌-◌, ◌%◌, ◌^◌, Bool, true, false, cond, List, [], ◌∷◌, ◌==◌}
-use Rattle.types.specs.declared.OptionU32.{OptionU32}
+use Rattle.std.specs.Prelude.{ℕ, ◌-◌, ◌%◌, ◌^◌, Bool, true, false, cond, List, [], ◌∷◌, ◌==◌, Option, Some, None}
 use Rattle.time.specs.Time.{wrapping, wrapping_sub, age, at_most}
 use Rattle.supervisor.specs.declared.Supervisor.{Supervisor}
 use Rattle.wire.specs.Frame.{all_true}
@@ -8,9 +7,9 @@ use Rattle.instants.specs.Retimed.{TimerName, gcs_clear, rc_clear, gps_deg_set, 
 use Rattle.instants.specs.Own.{own, position_stamp}
 
 -- "34 where last_now is absent or T's low 32 bits differ from it"
-abbrev pub last_is : ℕ → OptionU32 → Bool
-last_is T OptionU32.None = false
-last_is T (OptionU32.Some last) = T % 2 ^ 32 == last
+abbrev pub last_is : ℕ → Option ℕ → Bool
+last_is T None = false
+last_is T (Some last) = T % 2 ^ 32 == last
 
 module _ (T : ℕ) (s : Supervisor) where
   -- last_now, where it is there
@@ -18,9 +17,9 @@ module _ (T : ℕ) (s : Supervisor) where
   last_of = own s.last_now
 
   -- "35 where a held instant other than the epoch has no age or one above T"
-  abbrev pub has_age : OptionU32 → Bool
-  has_age OptionU32.None = true
-  has_age (OptionU32.Some x) = at_most (age wrapping last_of x) T
+  abbrev pub has_age : Option ℕ → Bool
+  has_age None = true
+  has_age (Some x) = at_most (age wrapping last_of x) T
 
   abbrev pub timer_has_age : TimerName → Bool
   timer_has_age n = has_age (timer_of s.triggers n).since_ms
@@ -64,7 +63,7 @@ module _ (T : ℕ) (s : Supervisor) where
   abbrev pub carried_from : ℕ → ℕ
   carried_from x = T - wrapping_sub last_of x
 
-  abbrev pub carried_held : OptionU32 → ℕ
+  abbrev pub carried_held : Option ℕ → ℕ
   carried_held o = carried_from (own o)
 
   -- "The epoch does too, or becomes T where it has no age or one above T."

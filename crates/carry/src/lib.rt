@@ -12,8 +12,6 @@ ghost use Rattle.instants.specs.Own.{own};
 ghost use Rattle.instants.specs.Listed.{listed};
 ghost use Rattle.carry.specs.Carry.{last_is, last_of, has_age, have_ages, carried, refusal_at};
 
-use types::OptionU32;
-
 // ---- one instant
 
 fn wide(n: u32) -> u64
@@ -39,8 +37,8 @@ fn aged(x: u32, t: u64, last: u32) -> bool
     ensures { result ≡ at_most (age wrapping last x) t }
 {
     match time::age_ms(last, x) {
-        OptionU32::Some(age) => wide(age) <= t,
-        OptionU32::None => false,
+        Some(age) => wide(age) <= t,
+        None => false,
     }
 }
 

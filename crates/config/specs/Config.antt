@@ -1,7 +1,7 @@
 -- Document 01, 'config': the rules of the settings, in their order. Assumes nothing.
 -- "Order: cells 1 to 14; capacity; eight finite values; speeds; powers; percentages; four durations 1 to 600,000; home; h_rtl."
 -- "Unchecked floats may be NaN; comparisons with NaN are false."
-use Rattle.std.specs.Prelude.{ℕ, Bool, not, ◌||◌, cond, List, [], ◌∷◌, ltb, Float}
+use Rattle.std.specs.Prelude.{ℕ, Bool, not, ◌||◌, cond, List, [], ◌∷◌, ltb, Float, Result, Ok, Err, ⊤}
 use Rattle.std.specs.Float.Ieee.{lt, le}
 use Rattle.types.specs.declared.Point2.{Point2}
 use Rattle.float32.specs.Binary32.{zero_f}
@@ -11,7 +11,6 @@ use Rattle.corners.specs.Acceptance.{fence_error_number}
 use Rattle.geometry.specs.Distance.{contains, ring_of}
 use Rattle.config.specs.declared.Config.{Config}
 use Rattle.config.specs.declared.ConfigError.{ConfigError}
-use Rattle.config.specs.declared.ConfigResult.{ConfigResult}
 
 -- "ConfigError after Fence in declared order, HomeOutsideFence to DurationOutOfRange | 20 to 28"; a fence's error has its own number
 abbrev pub config_error_number : ConfigError → ℕ
@@ -77,9 +76,9 @@ abbrev rule : Bool → ConfigError → Rule
 rule b e = record { broken = b; error = e }
 
 -- the first broken rule of a list
-abbrev pub first_broken : List Rule → ConfigResult
-first_broken [] = ConfigResult.Ok
-first_broken (r ∷ rs) = cond r.broken (ConfigResult.Err r.error) (first_broken rs)
+abbrev pub first_broken : List Rule → Result ⊤ ConfigError
+first_broken [] = Ok tt
+first_broken (r ∷ rs) = cond r.broken (Err r.error) (first_broken rs)
 
 -- the rules in document 01's order, where home's place in the fence and the fence's altitudes are given
 abbrev pub rules : Config → Bool → Float → Float → List Rule
@@ -95,12 +94,12 @@ rules c home_inside low high =
     rule (rtl_alt_outside_fence c low high) ConfigError.RtlAltOutsideFence ∷
     []
 
-unfoldable pub check_config : Config → Bool → Float → Float → ConfigResult
+unfoldable pub check_config : Config → Bool → Float → Float → Result ⊤ ConfigError
 check_config c home_inside low high = first_broken (rules c home_inside low high)
 
 -- home is the origin
 abbrev pub home : Point2
 home = record { n = zero_f; e = zero_f }
 
-unfoldable pub validate_config : Config → Geofence → ConfigResult
+unfoldable pub validate_config : Config → Geofence → Result ⊤ ConfigError
 validate_config c f = check_config c (contains (ring_of f.poly) home) f.min_alt_m f.max_alt_m

@@ -4,7 +4,7 @@ use Rattle.std.specs.Float.{binary32}
 use Rattle.std.specs.Float.Ieee.{round, neg}
 use Rattle.types.specs.declared.Point2.{Point2}
 use Rattle.geometry.specs.declared.GeofenceResult.{GeofenceResult}
-use Rattle.corners.specs.Acceptance.{result_and}
+use Rattle.std.specs.Result.{result_and}
 use Rattle.geometry.specs.Polygon.{polygon_new, geofence_new}
 use Rattle.config.specs.declared.Config.{Config}
 

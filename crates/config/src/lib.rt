@@ -163,13 +163,6 @@ pub enum ConfigError {
     DurationOutOfRange,
 }
 
-// Result<(), ConfigError>.
-#[derive(Clone, Copy)]
-pub enum ConfigResult {
-    Ok,
-    Err(ConfigError),
-}
-
 impl ConfigError {
     // Document 01's refusal number. A fence's error keeps its own.
     pub fn number(self) -> u16
@@ -261,40 +254,45 @@ fn rtl_alt_outside_fence(cfg: Config, min_alt_m: f32, max_alt_m: f32) -> bool
 }
 
 // The rules in their order, with home's place in the fence already known.
-pub fn check_config(cfg: Config, home_inside: bool, min_alt_m: f32, max_alt_m: f32) -> ConfigResult
+pub fn check_config(
+    cfg: Config,
+    home_inside: bool,
+    min_alt_m: f32,
+    max_alt_m: f32,
+) -> Result<(), ConfigError>
     ensures { result ≡ check_config cfg home_inside min_alt_m max_alt_m }
 {
     if bad_cell_count(cfg) {
-        return ConfigResult::Err(ConfigError::BadCellCount);
+        return Err(ConfigError::BadCellCount);
     }
     if bad_capacity(cfg) {
-        return ConfigResult::Err(ConfigError::BadCapacity);
+        return Err(ConfigError::BadCapacity);
     }
     if non_finite_param(cfg) {
-        return ConfigResult::Err(ConfigError::NonFiniteParam);
+        return Err(ConfigError::NonFiniteParam);
     }
     if non_positive_speed(cfg) {
-        return ConfigResult::Err(ConfigError::NonPositiveSpeed);
+        return Err(ConfigError::NonPositiveSpeed);
     }
     if negative_power(cfg) {
-        return ConfigResult::Err(ConfigError::NegativePower);
+        return Err(ConfigError::NegativePower);
     }
     if bad_threshold_order(cfg) {
-        return ConfigResult::Err(ConfigError::BadThresholdOrder);
+        return Err(ConfigError::BadThresholdOrder);
     }
     if duration_out_of_range(cfg) {
-        return ConfigResult::Err(ConfigError::DurationOutOfRange);
+        return Err(ConfigError::DurationOutOfRange);
     }
     if !home_inside {
-        return ConfigResult::Err(ConfigError::HomeOutsideFence);
+        return Err(ConfigError::HomeOutsideFence);
     }
     if rtl_alt_outside_fence(cfg, min_alt_m, max_alt_m) {
-        return ConfigResult::Err(ConfigError::RtlAltOutsideFence);
+        return Err(ConfigError::RtlAltOutsideFence);
     }
-    ConfigResult::Ok
+    Ok(())
 }
 
-pub fn validate_config(cfg: Config, fence: Geofence) -> ConfigResult
+pub fn validate_config(cfg: Config, fence: Geofence) -> Result<(), ConfigError>
     ensures { result ≡ validate_config cfg fence }
 {
     let home = Point2 { n: 0.0, e: 0.0 };

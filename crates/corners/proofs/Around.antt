@@ -1,4 +1,5 @@
 -- The loop that goes once round the corners, handing each on: where it stands, and what its flags say of the whole. Assumes nothing.
+use Rattle.std.specs.Prelude.{Result, Ok, Err, ⊤}
 use mathlib.Core.Path.{◌≡◌, refl, sym, ap, ◌∙◌}
 use Prim.Native.Nat.{ℕ, ◌+◌, ◌%◌, ◌≤◌, ◌<◌}
 use native.Mathlib.Nat.{mod-eq_of_lt, mod-lt}
@@ -12,11 +13,11 @@ use borrow.Author.Tests.{ltb-true, ltb-false, le-ltb}
 use Rattle.float32.specs.Libm.{fabs}
 use Rattle.types.specs.declared.Point2.{Point2}
 use Rattle.corners.specs.Ring.{any_meets, sides, turns, tails}
-use Rattle.corners.specs.Acceptance.{result_and, fault_if, first_fault, corner_fault, recurs, flat_turn, mixed_turns, polygon_area, least_area, polygon_tests, polygon_fault}
+use Rattle.std.specs.Result.{result_and}
+use Rattle.corners.specs.Acceptance.{fault_if, first_fault, corner_fault, recurs, flat_turn, mixed_turns, polygon_area, least_area, polygon_tests, polygon_fault}
 use Rattle.corners.specs.OnceRound.{sign_changes}
 use Rattle.corners.specs.Round.{place, failed, round_of}
 use Rattle.corners.specs.declared.FenceError.{FenceError}
-use Rattle.corners.specs.declared.FenceResult.{FenceResult}
 use Rattle.corners.proofs.Laws.{next_less, next_last, corner_at, side_at, turn_at}
 
 pub place_next : (i n : ℕ) → i < n → place (i + 1) n ≡ (i + 1) % n
@@ -69,21 +70,21 @@ module _ {A : Type 0} (v : List A) (n : ℕ) (room : n ≤ length v) (d : A) whe
     turn_here = rw ((g h).0, (g h).1.0, (g h).1.1) (turn_at v n room i d h)
 
 -- a corner has a fault exactly where there is a first one
-failed_and : (v w : FenceResult) → failed (result_and v w) ≡ (failed v || failed w)
-failed_and FenceResult.Ok w = refl
-failed_and (FenceResult.Err e) w = refl
+failed_and : (v w : Result ⊤ FenceError) → failed (result_and v w) ≡ (failed v || failed w)
+failed_and (Ok tt) w = refl
+failed_and (Err e) w = refl
 
-failed_round : (v : FenceResult) (l : List Point2) → foldl (λ b p. b || failed (corner_fault p)) (failed v) l ≡ failed (foldl (λ w p. result_and w (corner_fault p)) v l)
+failed_round : (v : Result ⊤ FenceError) (l : List Point2) → foldl (λ b p. b || failed (corner_fault p)) (failed v) l ≡ failed (foldl (λ w p. result_and w (corner_fault p)) v l)
 failed_round v [] = refl
 failed_round v (p ∷ l) = rw (← failed_and v (corner_fault p)) (failed_round (result_and v (corner_fault p)) l)
 
-not_failed : (v : FenceResult) → failed v ≡ false → v ≡ FenceResult.Ok
-not_failed FenceResult.Ok h = refl
-not_failed (FenceResult.Err e) h = let z : ◌≡◌ {A = ℕ} 0 1 = cc in absurd (omega arith)
+not_failed : (v : Result ⊤ FenceError) → failed v ≡ false → v ≡ Ok tt
+not_failed (Ok tt) h = refl
+not_failed (Err e) h = let z : ◌≡◌ {A = ℕ} 0 1 = cc in absurd (omega arith)
 
-first_decides : (v w x y z u : FenceResult) → failed v ≡ true → result_and (result_and (result_and (result_and (result_and v w) x) y) z) u ≡ v
-first_decides (FenceResult.Err e) w x y z u h = refl
-first_decides FenceResult.Ok w x y z u h = let z : ◌≡◌ {A = ℕ} 0 1 = cc in absurd (omega arith)
+first_decides : (v w x y z u : Result ⊤ FenceError) → failed v ≡ true → result_and (result_and (result_and (result_and (result_and v w) x) y) z) u ≡ v
+first_decides (Err e) w x y z u h = refl
+first_decides (Ok tt) w x y z u h = let z : ◌≡◌ {A = ℕ} 0 1 = cc in absurd (omega arith)
 
 -- the first error of 3 to 16 corners, test by test
 module _ (once : Bool) (n : ℕ) (l : List Point2) (h : 3 ≤ n) (k : n ≤ 16) where
@@ -95,28 +96,28 @@ module _ (once : Bool) (n : ℕ) (l : List Point2) (h : 3 ≤ n) (k : n ≤ 16) 
   pub fault_corner : (round_of l).failed ≡ true → polygon_fault once n l ≡ first_fault corner_fault l
   unfolding round_of
   fault_corner e =
-      let f : failed (first_fault corner_fault l) ≡ true = sym (failed_round FenceResult.Ok l) ∙ e in
+      let f : failed (first_fault corner_fault l) ≡ true = sym (failed_round (Ok tt) l) ∙ e in
       in_range ∙ first_decides _ _ _ _ _ _ f
 
   module _ (e : (round_of l).failed ≡ false) where
-    corners_ok : first_fault corner_fault l ≡ FenceResult.Ok
+    corners_ok : first_fault corner_fault l ≡ Ok tt
     unfolding round_of
-    corners_ok = not_failed _ (sym (failed_round FenceResult.Ok l) ∙ e)
+    corners_ok = not_failed _ (sym (failed_round (Ok tt) l) ∙ e)
 
-    pub fault_duplicate : any_meets recurs (tails l) ≡ true → polygon_fault once n l ≡ FenceResult.Err FenceError.DuplicateVertex
+    pub fault_duplicate : any_meets recurs (tails l) ≡ true → polygon_fault once n l ≡ Err FenceError.DuplicateVertex
     fault_duplicate r = rw (in_range, corners_ok, r)
 
     module _ (r : any_meets recurs (tails l) ≡ false) where
-      pub fault_flat : (round_of l).flat ≡ true → polygon_fault once n l ≡ FenceResult.Err FenceError.CollinearEdge
+      pub fault_flat : (round_of l).flat ≡ true → polygon_fault once n l ≡ Err FenceError.CollinearEdge
       unfolding round_of
       fault_flat f = rw (in_range, corners_ok, r, f)
 
-      pub fault_mixed : (round_of l).flat ≡ false → ((round_of l).pos && (round_of l).neg) ≡ true → polygon_fault once n l ≡ FenceResult.Err FenceError.NotConvex
+      pub fault_mixed : (round_of l).flat ≡ false → ((round_of l).pos && (round_of l).neg) ≡ true → polygon_fault once n l ≡ Err FenceError.NotConvex
       unfolding round_of mixed_turns
       fault_mixed f m = rw (in_range, corners_ok, r, f, m)
 
       pub fault_round : (round_of l).flat ≡ false → ((round_of l).pos && (round_of l).neg) ≡ false → (once && ltb 2 (sign_changes l)) ≡ true
-          → polygon_fault once n l ≡ FenceResult.Err FenceError.NotOnceRound
+          → polygon_fault once n l ≡ Err FenceError.NotOnceRound
       unfolding round_of mixed_turns
       fault_round f m o = rw (in_range, corners_ok, r, f, m, o)
 

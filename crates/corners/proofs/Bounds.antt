@@ -11,7 +11,8 @@ use borrow.Author.Tests.{lt-ltb, le-ltb, ltb-true, ltb-false, eqb-true, eqb-fals
 use lib.Ieee.{Float, nan, inf, fin, lt, le, eq, up, down}
 use lib.Ieee.Fits.{up_pos, down_pos}
 use Rattle.float32.specs.Libm.{is_finite, fabs}
-use Rattle.corners.specs.Acceptance.{result_and, fault_if}
+use Rattle.std.specs.Result.{result_and}
+use Rattle.corners.specs.Acceptance.{fault_if}
 use Rattle.corners.specs.Round.{failed}
 use Rattle.corners.specs.declared.FenceError.{FenceError}
 

@@ -3,7 +3,6 @@ pub mod Laws
 pub mod Places
 pub mod OnceRound
 pub mod Callers
-pub mod Numbers
 pub mod Constants
 pub mod Bounds
 pub mod Around

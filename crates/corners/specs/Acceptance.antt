@@ -1,6 +1,7 @@
 -- Which corners are accepted. The quotations without a name are of document 01's paragraph on geometry. Assumes nothing.
-use Rattle.std.specs.Prelude.{ℕ, Bool, not, ◌&&◌, ◌||◌, cond, ltb, Float}
+use Rattle.std.specs.Prelude.{ℕ, Bool, not, ◌&&◌, ◌||◌, cond, ltb, Float, Result, Ok, Err, ⊤}
 use mathlib.Core.List.{List, [], ◌∷◌, foldl}
+use Rattle.std.specs.Result.{result_and}
 use Rattle.std.specs.Float.{binary32}
 use Rattle.std.specs.Float.Ieee.{add, sub, mul, lt, eq, of_bits}
 use Rattle.float32.specs.Binary32.{zero_f}
@@ -8,7 +9,6 @@ use Rattle.float32.specs.Libm.{is_finite, fabs}
 use Rattle.types.specs.declared.Point2.{Point2}
 use Rattle.corners.specs.Ring.{any_meets, sides, turns, tails}
 use Rattle.corners.specs.declared.FenceError.{FenceError}
-use Rattle.corners.specs.declared.FenceResult.{FenceResult}
 use Rattle.corners.specs.OnceRound.{sign_changes}
 use Rattle.corners.specs.declared.Judged.{Judged}
 
@@ -38,33 +38,15 @@ fence_error_number FenceError.AreaTooSmall = 17
 fence_error_number FenceError.BadAltitudes = 18
 fence_error_number FenceError.NotOnceRound = 33
 
--- in declared order all the way, for the code
-abbrev pub declared_number : FenceError → ℕ
-declared_number FenceError.TooFewVertices = 10
-declared_number FenceError.TooManyVertices = 11
-declared_number FenceError.NonFinite = 12
-declared_number FenceError.OutOfEnvelope = 13
-declared_number FenceError.DuplicateVertex = 14
-declared_number FenceError.CollinearEdge = 15
-declared_number FenceError.NotConvex = 16
-declared_number FenceError.AreaTooSmall = 17
-declared_number FenceError.BadAltitudes = 18
-declared_number FenceError.NotOnceRound = 19
-
--- the first error of the two, as Rust's Result::and
-abbrev pub result_and : FenceResult → FenceResult → FenceResult
-result_and FenceResult.Ok w = w
-result_and (FenceResult.Err e) w = FenceResult.Err e
-
-abbrev pub fault_if : Bool → FenceError → FenceResult
-fault_if b e = cond b (FenceResult.Err e) FenceResult.Ok
+abbrev pub fault_if : Bool → FenceError → Result ⊤ FenceError
+fault_if b e = cond b (Err e) (Ok tt)
 
 -- the first error that a test finds in a list
-abbrev pub first_fault : {A : Type 0} → (A → FenceResult) → List A → FenceResult
-first_fault f = foldl (λ v a. result_and v (f a)) FenceResult.Ok
+abbrev pub first_fault : {A : Type 0} → (A → Result ⊤ FenceError) → List A → Result ⊤ FenceError
+first_fault f = foldl (λ v a. result_and v (f a)) (Ok tt)
 
 -- "per corner finite, then within ±10,000"
-unfoldable pub corner_fault : Point2 → FenceResult
+unfoldable pub corner_fault : Point2 → Result ⊤ FenceError
 corner_fault p =
     result_and
     (fault_if (not (is_finite p.n) || not (is_finite p.e)) FenceError.NonFinite)
@@ -112,7 +94,7 @@ polygon_area l = mul binary32 (foldl (λ x s. add binary32 x (area_term s)) zero
 -- "3 to 16 corners. Order: counts; per corner finite, then within ±10,000; duplicates; any turn under 0.0001 in size; mixed turn signs; area under 100."
 -- document 02, L5: "Turned away: 33 where the sign changes more than twice, after 16 and before 17", where that rule is asked: once.
 -- n is the count as sent, l the corners
-unfoldable pub polygon_tests : Bool → ℕ → List Point2 → List FenceResult
+unfoldable pub polygon_tests : Bool → ℕ → List Point2 → List (Result ⊤ FenceError)
 polygon_tests once n l =
     fault_if (ltb n 3) FenceError.TooFewVertices
     ∷ fault_if (ltb 16 n) FenceError.TooManyVertices
@@ -125,7 +107,7 @@ polygon_tests once n l =
     ∷ []
 
 -- the first test that fails decides
-abbrev pub polygon_fault : Bool → ℕ → List Point2 → FenceResult
+abbrev pub polygon_fault : Bool → ℕ → List Point2 → Result ⊤ FenceError
 polygon_fault once n l = first_fault (λ v. v) (polygon_tests once n l)
 
 -- it, and the corners' area

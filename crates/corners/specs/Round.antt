@@ -1,20 +1,20 @@
 -- What one way round the corners tells of the tests that Acceptance has. Assumes nothing.
-use Rattle.std.specs.Prelude.{ℕ, Bool, true, false, cond, List, ltb}
+use Rattle.std.specs.Prelude.{ℕ, Bool, true, false, cond, List, ltb, Result, Ok, Err, ⊤}
 use Rattle.std.specs.Float.Ieee.{lt}
 use Rattle.float32.specs.Binary32.{zero_f}
 use Rattle.types.specs.declared.Point2.{Point2}
 use Rattle.corners.specs.Ring.{any_meets, turns}
 use Rattle.corners.specs.Acceptance.{corner_fault, flat_turn, cross2, polygon_area}
-use Rattle.corners.specs.declared.FenceResult.{FenceResult}
 use Rattle.corners.specs.declared.Round.{Round}
+use Rattle.corners.specs.declared.FenceError.{FenceError}
 
 -- the place k of a ring of n, the first after the last
 abbrev pub place : ℕ → ℕ → ℕ
 place k n = cond (ltb k n) k 0
 
-abbrev pub failed : FenceResult → Bool
-failed FenceResult.Ok = false
-failed (FenceResult.Err e) = true
+abbrev pub failed : Result ⊤ FenceError → Bool
+failed (Ok tt) = false
+failed (Err e) = true
 
 unfoldable pub round_of : List Point2 → Round
 round_of l =

@@ -4,81 +4,39 @@
 ghost use Rattle.std.specs.Prelude.{◌≡◌, ◌≤◌, min, ◌&&◌, ltb, take};
 ghost use Rattle.corners.specs.Ring.{any_meets, tails};
 ghost use Rattle.corners.specs.Round.{place, failed, round_of};
-ghost use Rattle.corners.specs.Acceptance.{fence_error_number, declared_number, result_and, fault_if, first_fault, corner_fault, same_point, recurs, flat_turn, cross2, area_term, polygon_area, polygon_fault, judged};
+ghost use Rattle.corners.specs.Acceptance.{fence_error_number, fault_if, first_fault, corner_fault, same_point, recurs, flat_turn, cross2, area_term, polygon_area, polygon_fault, judged};
 ghost use Rattle.corners.specs.OnceRound.{north_sign, differ, join_if, sign_changes};
 
 use types::Point2;
 
 #[derive(Clone, Copy)]
 pub enum FenceError {
-    TooFewVertices,
-    TooManyVertices,
-    NonFinite,
-    OutOfEnvelope,
-    DuplicateVertex,
-    CollinearEdge,
-    NotConvex,
-    AreaTooSmall,
-    BadAltitudes,
+    TooFewVertices = 10,
+    TooManyVertices = 11,
+    NonFinite = 12,
+    OutOfEnvelope = 13,
+    DuplicateVertex = 14,
+    CollinearEdge = 15,
+    NotConvex = 16,
+    AreaTooSmall = 17,
+    BadAltitudes = 18,
     // not the Rust's: the rule of kind 8
-    NotOnceRound,
+    NotOnceRound = 33,
 }
 
 impl FenceError {
-    // In declared order from 10 on: one addition, where a case out of the row would cost every step a table.
-    fn declared(self) -> u16
-        ensures { result ≡ declared_number self }
-    {
-        match self {
-            FenceError::TooFewVertices => 10,
-            FenceError::TooManyVertices => 11,
-            FenceError::NonFinite => 12,
-            FenceError::OutOfEnvelope => 13,
-            FenceError::DuplicateVertex => 14,
-            FenceError::CollinearEdge => 15,
-            FenceError::NotConvex => 16,
-            FenceError::AreaTooSmall => 17,
-            FenceError::BadAltitudes => 18,
-            FenceError::NotOnceRound => 19,
-        }
-    }
-
     // The number of the refusal.
     pub fn number(self) -> u16
         ensures { result ≡ fence_error_number self }
     {
-        let n = self.declared();
-        if n == 19 { 33 } else { n }
+        self as u16
     }
 }
 
-// Result<(), FenceError>; what is accepted stands beside it.
-#[derive(Clone, Copy)]
-pub enum FenceResult {
-    Ok,
-    Err(FenceError),
-}
-
-impl FenceResult {
-    // Rust's Result::and: the first error of the two.
-    pub fn and(self, other: FenceResult) -> FenceResult
-        ensures { result ≡ result_and self other }
-    {
-        match self {
-            FenceResult::Ok => other,
-            FenceResult::Err(e) => FenceResult::Err(e),
-        }
-    }
-}
-
-pub fn fault_if(test: bool, e: FenceError) -> FenceResult
+pub fn fault_if(test: bool, e: FenceError) -> Result<(), FenceError>
     ensures { result ≡ fault_if test e }
 {
-    if test {
-        FenceResult::Err(e)
-    } else {
-        FenceResult::Ok
-    }
+    if test { Err(e) } else { Ok(()) }
 }
 
 // What one way round a polygon's corners tells: whether a corner has a fault, a turn is flat, goes left, goes right; the area.
@@ -103,7 +61,7 @@ struct Signs {
 // The first error of some corners, and the area that they enclose.
 #[derive(Clone, Copy)]
 pub struct Judged {
-    pub result: FenceResult,
+    pub result: Result<(), FenceError>,
     pub area: f32,
 }
 
@@ -121,7 +79,7 @@ fn wrapped(k: usize, n: usize) -> usize
     if k < n { k } else { 0 }
 }
 
-fn corner_fault(p: Point2) -> FenceResult
+fn corner_fault(p: Point2) -> Result<(), FenceError>
     ensures { result ≡ corner_fault p }
 {
     let finite_n = float32::is_finite(p.n);
@@ -145,11 +103,11 @@ fn corner_failed(p: Point2) -> bool
     !(in_n & in_e)
 }
 
-fn corners_fault(pts: [Point2; 16], n: usize) -> FenceResult
+fn corners_fault(pts: [Point2; 16], n: usize) -> Result<(), FenceError>
     requires { n ≤ 16 }
     ensures { result ≡ first_fault corner_fault (take n pts) }
 {
-    let mut v = FenceResult::Ok;
+    let mut v = Ok(());
     let mut i: usize = 0;
     while i < n {
         let p = pts[i];
@@ -351,7 +309,13 @@ fn not_once_round(pts: [Point2; 16], n: usize, once_round: bool) -> bool
 }
 
 // The first error of n corners, of which the array has the first m.
-fn polygon_fault(pts: [Point2; 16], n: usize, m: usize, once_round: bool, r: Round) -> FenceResult
+fn polygon_fault(
+    pts: [Point2; 16],
+    n: usize,
+    m: usize,
+    once_round: bool,
+    r: Round,
+) -> Result<(), FenceError>
     requires { (m ≤ 16) × (r ≡ round_of (take m pts)) }
     ensures { result ≡ polygon_fault once_round n (take m pts) }
 {
@@ -359,25 +323,25 @@ fn polygon_fault(pts: [Point2; 16], n: usize, m: usize, once_round: bool, r: Rou
     let size = float32::fabsf(r.area);
     let again = not_once_round(pts, m, once_round);
     if n < 3 {
-        return FenceResult::Err(FenceError::TooFewVertices);
+        return Err(FenceError::TooFewVertices);
     }
     if n > 16 {
-        return FenceResult::Err(FenceError::TooManyVertices);
+        return Err(FenceError::TooManyVertices);
     }
     if r.failed {
         return corners_fault(pts, m);
     }
     if duplicate {
-        return FenceResult::Err(FenceError::DuplicateVertex);
+        return Err(FenceError::DuplicateVertex);
     }
     if r.flat {
-        return FenceResult::Err(FenceError::CollinearEdge);
+        return Err(FenceError::CollinearEdge);
     }
     if r.pos & r.neg {
-        return FenceResult::Err(FenceError::NotConvex);
+        return Err(FenceError::NotConvex);
     }
     if again {
-        return FenceResult::Err(FenceError::NotOnceRound);
+        return Err(FenceError::NotOnceRound);
     }
     fault_if(size < 100.0, FenceError::AreaTooSmall)
 }

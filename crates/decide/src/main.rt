@@ -19,11 +19,7 @@ use stream::Session;
 fn write_out<P: Print>(rt: &P, put: usize, output: &[u8]) -> bool
     ensures { result ≡ true → put ≤ length output.now }
 {
-    if put <= output.len() {
-        rt.write_all(&output[..put]).is_ok()
-    } else {
-        false
-    }
+    put <= output.len() && rt.write_all(&output[..put]).is_ok()
 }
 
 // Reads once, behind the `have` bytes that are in, and answers how many are in then: no more than `have` at the end of the
@@ -44,24 +40,24 @@ fn read_behind<R: Read>(reader: &mut R, input: &mut [u8], have: usize) -> usize
 fn read_on<P: Print, R: Read>(
     rt: &P,
     reader: &mut R,
-    session: Session,
+    session: &Session,
     from: usize,
     have: usize,
     input: &mut [u8],
     output: &mut [u8],
 ) -> Kept
-    ensures from_le_have { (result.from ≤ result.have) × (result.have ≤ length input.old) × (result.session ≡ session) }
+    ensures from_le_have { (result.from ≤ result.have) × (result.have ≤ length input.old) × (result.session ≡ session.now) }
     ensures more_value { result.more ≡ ltb (length (slice from have input.old)) result.have }
     ensures input_after { slice result.from result.have input.new ≡ slice from have input.old ++ drop (length (slice from have input.old)) (slice result.from result.have input.new) }
 {
     let rest = decided::move_front(input, from, have);
     let full = read_behind(reader, input, rest);
     if full == rest {
-        let due = session.due;
-        write_out(rt, stream::end_input(due, rest, output), output);
+        let put = stream::end_input(session.due, rest, output);
+        write_out(rt, put, output);
     }
     Kept {
-        session: session,
+        session: *session,
         from: 0,
         have: full,
         more: rest < full,
@@ -73,31 +69,26 @@ fn read_on<P: Print, R: Read>(
 fn turn<P: Print, R: Read>(
     rt: &P,
     reader: &mut R,
-    k: Kept,
+    k: &Kept,
     input: &mut [u8],
     output: &mut [u8],
     held: &mut [u8; 1045],
 ) -> Kept
-    requires { (k.from ≤ k.have) × (k.have ≤ length input.old) }
+    requires { (k.now.from ≤ k.now.have) × (k.now.have ≤ length input.old) }
     ensures from_le_have { (result.from ≤ result.have) × (result.have ≤ length input.old) }
-    ensures held_after { pending result input.new held.new ≡ next (length output.old) (pending k input.old held.old) (newly (pending k input.old held.old) (pending result input.new held.new)) }
+    ensures held_after { pending result input.new held.new ≡ next (length output.old) (pending k.now input.old held.old) (newly (pending k.now input.old held.old) (pending result input.new held.new)) }
 {
-    let session = k.session;
-    let from = k.from;
-    let have = k.have;
-    let t = decided::answer_front(session, &input[from..have], output, held);
-    let after = t.session;
-    let taken = t.taken;
-    if taken == 0 {
-        return read_on(rt, reader, after, from, have, input, output);
+    let t = decided::answer_front(&k.session, &input[k.from..k.have], output, held);
+    if t.taken == 0 {
+        return read_on(rt, reader, &t.session, k.from, k.have, input, output);
     }
     let ok = write_out(rt, t.put, output);
-    let due = after.due;
+    let due = t.session.due;
     Kept {
-        session: after,
-        from: from + taken,
-        have: have,
-        more: ok & (stream::in_setup(due) | stream::in_flight(due)),
+        session: t.session,
+        from: k.from + t.taken,
+        have: k.have,
+        more: ok & (due.in_setup() | due.in_flight()),
     }
 }
 
@@ -115,19 +106,17 @@ fn decide<P: Print, R: Read>(rt: &P, reader: &mut R) {
         have: 0,
         more: true,
     };
-    let mut turns = u64::MAX;
-    while turns > 0 && k.more {
-        k = turn(rt, reader, k, &mut input, &mut output, &mut held);
-        turns -= 1;
+    for _turn in 0..u64::MAX {
+        if !k.more {
+            return;
+        }
+        k = turn(rt, reader, &k, &mut input, &mut output, &mut held);
     }
 }
 
 // Whether the program was started with a word behind its name.
 fn has_words<R: Env + Alloc>(rt: &R) -> bool {
-    match env::args(rt) {
-        Ok(words) => words.len() > 1,
-        Err(_) => true,
-    }
+    env::args(rt).map_or(true, |words| words.len() > 1)
 }
 
 fn main(rt: HostRuntime) {

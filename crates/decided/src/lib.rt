@@ -31,35 +31,37 @@ pub struct Turn {
 
 // Answers frames from the front of the input: one where a kind 1 or 2 is due, and where a kind 3 is, as many as out has room for. The
 // areas held are the first bytes of `held`, which has room for the longest frame of them.
-pub fn answer_front(session: Session, input: &[u8], out: &mut [u8], held: &mut [u8; 1045]) -> Turn
-    ensures held_after { state result.session held.new ≡ (turn (length out.old) (state session held.old) input.now).after }
-    ensures taken_value { result.taken ≡ (turn (length out.old) (state session held.old) input.now).taken }
-    ensures put_value { result.put ≡ put_count (turn (length out.old) (state session held.old) input.now).bytes out.old }
-    ensures out_after { out.new ≡ frame_written (turn (length out.old) (state session held.old) input.now).bytes out.old }
+pub fn answer_front(session: &Session, input: &[u8], out: &mut [u8], held: &mut [u8; 1045]) -> Turn
+    ensures held_after { state result.session held.new ≡ (turn (length out.old) (state session.now held.old) input.now).after }
+    ensures taken_value { result.taken ≡ (turn (length out.old) (state session.now held.old) input.now).taken }
+    ensures put_value { result.put ≡ put_count (turn (length out.old) (state session.now held.old) input.now).bytes out.old }
+    ensures out_after { out.new ≡ frame_written (turn (length out.old) (state session.now held.old) input.now).bytes out.old }
     ensures taken_in_bounds { result.taken ≤ length input.now }
 {
-    let due = session.due;
-    if stream::in_flight(due) {
-        let f = session.flight;
-        let s = session.supervisor;
-        let p = stream::fly_frames(f, due, s, session.areas, input, out, held);
-        let next = p.due;
-        let after = p.supervisor;
+    if session.due.in_flight() {
+        let p = stream::fly_frames(
+            &session.flight,
+            session.due,
+            &session.supervisor,
+            session.areas,
+            input,
+            out,
+            held,
+        );
         return Turn {
             session: Session {
-                due: next,
-                flight: f,
-                supervisor: after,
+                due: p.due,
+                supervisor: p.supervisor,
                 areas: p.areas,
+                ..*session
             },
             taken: p.taken,
             put: p.put,
         };
     }
     let a = stream::set_up(session, input, out);
-    let after = a.session;
     Turn {
-        session: after,
+        session: a.session,
         taken: a.taken,
         put: a.put,
     }
@@ -71,15 +73,9 @@ pub fn move_front(input: &mut [u8], from: usize, end: usize) -> usize
     ensures input_after { input.new ≡ moved_front from end input.old }
 {
     let stop = wire::smaller(end, input.len());
-    if from == 0 {
-        return stop;
+    if stop <= from {
+        return 0;
     }
-    let mut i: usize = 0;
-    let mut j = from;
-    while j < stop {
-        input[i] = input[j];
-        i += 1;
-        j += 1;
-    }
-    i
+    input.copy_within(from..stop, 0);
+    stop - from
 }

@@ -1,17 +1,15 @@
 // The Rust's disarm.rs: when the motors may be stopped. The gate goes in by value and comes back; its lent form stands last.
-#![tactic(auto)]
+#![tactic(auto, unfolding(crate::specs::Disarm::gate_open, crate::specs::Disarm::hold_from, crate::specs::Disarm::evaluate))]
 
 ghost use Rattle.std.specs.Prelude.{◌≡◌};
 ghost use Rattle.time.specs.Time.{wrapping};
 ghost use Rattle.disarm.specs.Disarm.{closed, is_land, on_ground, gate_open, hold_from, evaluate};
 
-use types::{
-    Action, LandedState, OptionLandedState, OptionStampedBool, OptionStampedLandedState, OptionU32,
-};
+use types::{Action, LandedState, Stamped};
 
 #[derive(Clone, Copy)]
 pub struct DisarmGate {
-    pub hold_since_ms: OptionU32,
+    pub hold_since_ms: Option<u32>,
 }
 
 #[derive(Clone, Copy)]
@@ -24,69 +22,46 @@ pub fn reset_gate() -> DisarmGate
     ensures { result ≡ closed }
 {
     DisarmGate {
-        hold_since_ms: OptionU32::None,
+        hold_since_ms: None,
     }
 }
 
 fn is_land(a: Action) -> bool
     ensures { result ≡ is_land a }
 {
-    match a {
-        Action::Land => true,
-        Action::Nominal => false,
-        Action::Warn => false,
-        Action::Hold => false,
-        Action::ReturnToLaunch => false,
-    }
+    a == Action::Land
 }
 
-fn on_ground(landed: OptionLandedState) -> bool
+fn on_ground(landed: Option<LandedState>) -> bool
     ensures { result ≡ on_ground landed }
 {
-    match landed {
-        OptionLandedState::Some(l) => match l {
-            LandedState::OnGround => true,
-            LandedState::Undefined => false,
-            LandedState::InAir => false,
-            LandedState::Takeoff => false,
-            LandedState::Landing => false,
-        },
-        OptionLandedState::None => false,
-    }
+    landed == Some(LandedState::OnGround)
 }
 
 // Land is requested, and the aircraft is armed and on the ground by fresh readings.
 fn gate_open(
     now_ms: u32,
-    armed: OptionStampedBool,
-    landed: OptionStampedLandedState,
+    armed: Option<Stamped<bool>>,
+    landed: Option<Stamped<LandedState>>,
     status_fresh_ms: u32,
     requested: Action,
 ) -> bool
     ensures { result ≡ gate_open wrapping now_ms armed landed status_fresh_ms requested }
 {
-    let land = is_land(requested);
-    let is_armed = validate::fresh_true(now_ms, armed, status_fresh_ms);
-    let grounded = on_ground(validate::fresh_landed(now_ms, landed, status_fresh_ms));
-    land & is_armed & grounded
+    is_land(requested)
+        & validate::fresh_true(now_ms, armed, status_fresh_ms)
+        & on_ground(validate::fresh_landed(now_ms, landed, status_fresh_ms))
 }
 
-fn hold_from(since: OptionU32, now_ms: u32, hold_ms: u32) -> Evaluated
+fn hold_from(since: Option<u32>, now_ms: u32, hold_ms: u32) -> Evaluated
     ensures { result ≡ hold_from wrapping since now_ms hold_ms }
 {
-    match since {
-        OptionU32::Some(t) => Evaluated {
-            gate: DisarmGate {
-                hold_since_ms: OptionU32::Some(t),
-            },
-            eligible: time::hold_met(now_ms, t, hold_ms),
+    let since = since.unwrap_or(now_ms);
+    Evaluated {
+        gate: DisarmGate {
+            hold_since_ms: Some(since),
         },
-        OptionU32::None => Evaluated {
-            gate: DisarmGate {
-                hold_since_ms: OptionU32::Some(now_ms),
-            },
-            eligible: time::hold_met(now_ms, now_ms, hold_ms),
-        },
+        eligible: time::hold_met(now_ms, since, hold_ms),
     }
 }
 
@@ -94,8 +69,8 @@ fn hold_from(since: OptionU32, now_ms: u32, hold_ms: u32) -> Evaluated
 pub fn evaluate_gate(
     gate: DisarmGate,
     now_ms: u32,
-    armed: OptionStampedBool,
-    landed: OptionStampedLandedState,
+    armed: Option<Stamped<bool>>,
+    landed: Option<Stamped<LandedState>>,
     status_fresh_ms: u32,
     disarm_hold_ms: u32,
     requested: Action,
@@ -105,8 +80,7 @@ pub fn evaluate_gate(
 {
     let open = gate_open(now_ms, armed, landed, status_fresh_ms, requested);
     if open & !clock_fault {
-        let since = gate.hold_since_ms;
-        hold_from(since, now_ms, disarm_hold_ms)
+        hold_from(gate.hold_since_ms, now_ms, disarm_hold_ms)
     } else {
         Evaluated {
             gate: reset_gate(),
@@ -126,8 +100,8 @@ impl DisarmGate {
     pub fn evaluate(
         &mut self,
         now_ms: u32,
-        armed: OptionStampedBool,
-        landed: OptionStampedLandedState,
+        armed: Option<Stamped<bool>>,
+        landed: Option<Stamped<LandedState>>,
         status_fresh_ms: u32,
         disarm_hold_ms: u32,
         requested: Action,
@@ -164,8 +138,8 @@ pub fn reset_lent(gate: DisarmGate) -> DisarmGate
 pub fn evaluate_lent(
     gate: DisarmGate,
     now_ms: u32,
-    armed: OptionStampedBool,
-    landed: OptionStampedLandedState,
+    armed: Option<Stamped<bool>>,
+    landed: Option<Stamped<LandedState>>,
     status_fresh_ms: u32,
     disarm_hold_ms: u32,
     requested: Action,
@@ -183,8 +157,5 @@ pub fn evaluate_lent(
         requested,
         clock_fault,
     );
-    Evaluated {
-        gate: g,
-        eligible: eligible,
-    }
+    Evaluated { gate: g, eligible }
 }

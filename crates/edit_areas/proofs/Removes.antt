@@ -3,7 +3,7 @@ use Prim.Native.Nat.{ℕ, ◌+◌, ◌-◌, ◌≤◌, ◌<◌}
 use native.Mathlib.Omega.{arith}
 use mathlib.Core.Path.{◌≡◌, refl, sym, ap, ◌∙◌}
 use mathlib.Core.Bool.{true, false}
-use mathlib.Core.List.{List, [], ◌++◌}
+use mathlib.Core.List.{List, ◌++◌}
 use lib.ListN.{length, take, drop, length-append}
 use Rattle.wire.specs.Fields.{u8_at}
 use Rattle.wire.specs.Frame.{room_fault, frame_written}
@@ -66,13 +66,10 @@ module _ (s : List ℕ) (n : ℕ) (output : List ℕ) where
         some_held = omega (arith, w, held_count s e, ap length (split n (held_in s)), length-append (below n (held_in s)) (onward n (held_in s)), length-behind n (onward n (held_in s)) has)
 
         abbrev two : List ℕ
-        two = take (p.at - 5) (drop 5 s) ++ (take (p.at - p.at) (drop p.at s) ++ take (length s - (p.at + size)) (drop (p.at + size) s))
+        two = take (p.at - 5) (drop 5 s) ++ take (length s - (p.at + size)) (drop (p.at + size) s)
 
         front_is : take (p.at - 5) (drop 5 s) ≡ bodies_of (below n (held_in s))
         front_is = ap (λ (i : ℕ). take (i - 5) (drop 5 s)) there ∙ front_five s e n has
-
-        empty : take (p.at - p.at) (drop p.at s) ≡ []
-        empty = let z : p.at - p.at ≡ 0 = omega arith in ap (λ (i : ℕ). take i (drop p.at s)) z
 
         later_is : take (length s - (p.at + size)) (drop (p.at + size) s) ≡ bodies_of (behind (onward n (held_in s)))
         later_is = ap (λ (i : ℕ). take (length s - (i + size)) (drop (i + size) s)) there ∙ later_part s e n has size sized
@@ -82,11 +79,11 @@ module _ (s : List ℕ) (n : ℕ) (output : List ℕ) where
             let t = ap bodies_of (taken_out n (held_in s) (accepted s e).good.rising has) ∙ bodies_append (below n (held_in s)) (behind (onward n (held_in s))) in
             omega (arith, accepted_small (without n (held_in s)) (accepted_without n (held_in s) (accepted s e)), ap length t, length-append (bodies_of (below n (held_in s))) (bodies_of (behind (onward n (held_in s)))))
 
-        pub two_small : length (take (p.at - 5) (drop 5 s)) + length (take (p.at - p.at) (drop p.at s)) + length (take (length s - (p.at + size)) (drop (p.at + size) s)) < 65533
-        two_small = omega (arith, removed_small, ap length front_is, ap length empty, ap length later_is)
+        pub two_small : length (take (p.at - 5) (drop 5 s)) + 0 + length (take (length s - (p.at + size)) (drop (p.at + size) s)) < 65533
+        two_small = omega (arith, removed_small, ap length front_is, ap length later_is)
 
         two_frame : framed 13 (count - 1) two ≡ areas_frame (without n (held_in s))
-        two_frame = (λ i. framed 13 (w i - 1) (front_is i ++ (empty i ++ later_is i))) ∙ removed_frame s e n has
+        two_frame = (λ i. framed 13 (w i - 1) (front_is i ++ later_is i)) ∙ removed_frame s e n has
 
         pub remove_written : (r : ℕ) (o : List ℕ) → r ≡ room_fault (framed 13 (count - 1) two) output → o ≡ frame_written (framed 13 (count - 1) two) output
             → (r ≡ (remove_call s n output).number) × (o ≡ (remove_call s n output).output)

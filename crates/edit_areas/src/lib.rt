@@ -21,36 +21,31 @@ struct Place {
 fn widened(n: u8) -> usize
     ensures { result ≡ n }
 {
-    n as usize
+    usize::from(n)
 }
 
 fn wrong_number(number: u8, held: bool) -> bool
     ensures { result ≡ eqb number 0 || held }
 {
-    if number == 0 { true } else { held }
+    number == 0 || held
 }
 
 fn place_of(s: &[u8], number: u8) -> Place
     requires { bodies_fit (u8_at s.now 4) (drop 5 s.now) ≡ true }
     ensures { result ≡ place_of s.now number }
 {
-    let mut left = wire::u8_at(s, 4);
     let mut at = wire::smaller(s.len(), 5);
-    while left > 0 {
+    for _before in 0..wire::u8_at(s, 4) {
         let n = wire::u8_at(s, at);
         if n >= number {
             return Place {
-                at: at,
+                at,
                 held: n == number,
             };
         }
         at += frame_areas::body_size(&s[at..]);
-        left -= 1;
     }
-    Place {
-        at: at,
-        held: false,
-    }
+    Place { at, held: false }
 }
 
 // Copies a part of a frame to its place.
@@ -96,7 +91,7 @@ pub fn write_area(number: u8, corners: &[u8], output: &mut [u8]) -> u32
     if corners.len() != 1 + 8 * widened(count) {
         return 3;
     }
-    put_frame(7, &corners[0..0], corners, &corners[0..0], number, output)
+    put_frame(7, &[], corners, &[], number, output)
 }
 
 // The refusal of the areas held, then of the area's frame; 0 for none.
@@ -128,12 +123,11 @@ pub fn add_area(areas: &[u8], area: &[u8], output: &mut [u8]) -> u32
         return refusal as u32;
     }
     let from = wire::smaller(areas.len(), 5);
-    let at = place.at;
     put_frame(
         13,
-        &areas[from..at],
+        &areas[from..place.at],
         &area[4..],
-        &areas[at..],
+        &areas[place.at..],
         count + 1,
         output,
     )
@@ -149,19 +143,17 @@ pub fn remove_area(areas: &[u8], number: u8, output: &mut [u8]) -> u32
         return fault as u32;
     }
     let place = place_of(areas, number);
-    let held = place.held;
-    if held {
-        let at = place.at;
-        let end = at + frame_areas::body_size(&areas[at..]);
-        let count = wire::u8_at(areas, 4);
-        return put_frame(
-            13,
-            &areas[5..at],
-            &areas[at..at],
-            &areas[end..],
-            count - 1,
-            output,
-        );
+    if !place.held {
+        return 31;
     }
-    31
+    let end = place.at + frame_areas::body_size(&areas[place.at..]);
+    let count = wire::u8_at(areas, 4);
+    put_frame(
+        13,
+        &areas[5..place.at],
+        &[],
+        &areas[end..],
+        count - 1,
+        output,
+    )
 }

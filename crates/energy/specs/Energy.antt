@@ -1,11 +1,10 @@
 -- Document 01, 'energy': "Float operations in the Rust's order. Altitude is −d, so d = +0 gives −0." Assumes nothing.
-use Rattle.std.specs.Prelude.{Bool, false, Float}
+use Rattle.std.specs.Prelude.{Bool, false, Float, Option, Some, None}
 use Rattle.std.specs.Float.{binary32}
 use Rattle.std.specs.Float.Ieee.{lt, of_bits}
 use Rattle.float32.specs.Binary32.{add_f, sub_f, mul_f, div_f, zero_f}
 use Rattle.float32.specs.Libm.{fmax}
 use Rattle.types.specs.declared.Vec3.{Vec3}
-use Rattle.types.specs.declared.OptionF32.{OptionF32}
 use Rattle.types.specs.declared.EnergyEstimate.{EnergyEstimate}
 use Rattle.types.specs.Vec3.{alt_m, horizontal_dist_home}
 use Rattle.config.specs.declared.Config.{Config}
@@ -29,16 +28,16 @@ unfoldable pub land_wh : Config → Float → Float
 land_wh cfg h = div_f (mul_f (div_f h cfg.v_desc) cfg.p_desc) joules_per_wh
 
 -- what is left after the return and the reserve
-abbrev pub margin_of : OptionF32 → Float → Float → OptionF32
-margin_of OptionF32.None rtl reserve = OptionF32.None
-margin_of (OptionF32.Some r) rtl reserve = OptionF32.Some (sub_f (sub_f r rtl) reserve)
+abbrev pub margin_of : Option Float → Float → Float → Option Float
+margin_of None rtl reserve = None
+margin_of (Some r) rtl reserve = Some (sub_f (sub_f r rtl) reserve)
 
-abbrev pub insufficient_of : OptionF32 → Float → Bool
-insufficient_of OptionF32.None land = false
-insufficient_of (OptionF32.Some r) land = lt r land
+abbrev pub insufficient_of : Option Float → Float → Bool
+insufficient_of None land = false
+insufficient_of (Some r) land = lt r land
 
 -- at the horizontal distance d and the height h
-unfoldable pub rtl_energy_at : Config → Float → Float → OptionF32 → EnergyEstimate
+unfoldable pub rtl_energy_at : Config → Float → Float → Option Float → EnergyEstimate
 rtl_energy_at cfg d h remaining =
     let rtl = rtl_wh cfg d h in
     let land = land_wh cfg h in
@@ -51,5 +50,5 @@ rtl_energy_at cfg d h remaining =
       insufficient_for_landing = insufficient_of remaining land;
     }
 
-unfoldable pub rtl_energy : Config → Vec3 → OptionF32 → EnergyEstimate
+unfoldable pub rtl_energy : Config → Vec3 → Option Float → EnergyEstimate
 rtl_energy cfg pos remaining = rtl_energy_at cfg (horizontal_dist_home pos) (alt_m pos) remaining

@@ -6,7 +6,7 @@ ghost use Rattle.types.specs.Vec3.{alt_m};
 ghost use Rattle.energy.specs.Energy.{margin_of, insufficient_of, rtl_wh, land_wh, rtl_energy_at, rtl_energy};
 
 use config::Config;
-use types::{EnergyEstimate, OptionF32, Vec3};
+use types::{EnergyEstimate, Vec3};
 
 // Climb to h_rtl, cruise home, descend, at the horizontal distance d and the height h.
 fn rtl_wh(cfg: Config, d: f32, h: f32) -> f32
@@ -26,26 +26,26 @@ fn land_wh(cfg: Config, h: f32) -> f32
     (h / cfg.v_desc) * cfg.p_desc / 3600.0
 }
 
-fn margin_of(remaining_wh: OptionF32, rtl_wh: f32, reserve_wh: f32) -> OptionF32
+fn margin_of(remaining_wh: Option<f32>, rtl_wh: f32, reserve_wh: f32) -> Option<f32>
     ensures { result ≡ margin_of remaining_wh rtl_wh reserve_wh }
 {
     match remaining_wh {
-        OptionF32::Some(r) => OptionF32::Some(r - rtl_wh - reserve_wh),
-        OptionF32::None => OptionF32::None,
+        Some(r) => Some(r - rtl_wh - reserve_wh),
+        None => None,
     }
 }
 
-fn insufficient_of(remaining_wh: OptionF32, land_wh: f32) -> bool
+fn insufficient_of(remaining_wh: Option<f32>, land_wh: f32) -> bool
     ensures { result ≡ insufficient_of remaining_wh land_wh }
 {
     match remaining_wh {
-        OptionF32::Some(r) => r < land_wh,
-        OptionF32::None => false,
+        Some(r) => r < land_wh,
+        None => false,
     }
 }
 
 // For a caller that has the horizontal distance home already: it is a root, and is taken once.
-pub fn rtl_energy_by(cfg: Config, pos: Vec3, d: f32, remaining_wh: OptionF32) -> EnergyEstimate
+pub fn rtl_energy_by(cfg: Config, pos: Vec3, d: f32, remaining_wh: Option<f32>) -> EnergyEstimate
     ensures { result ≡ rtl_energy_at cfg d (alt_m pos) remaining_wh }
 {
     let h = pos.alt_m();
@@ -63,7 +63,7 @@ pub fn rtl_energy_by(cfg: Config, pos: Vec3, d: f32, remaining_wh: OptionF32) ->
     }
 }
 
-pub fn rtl_energy(cfg: Config, pos: Vec3, remaining_wh: OptionF32) -> EnergyEstimate
+pub fn rtl_energy(cfg: Config, pos: Vec3, remaining_wh: Option<f32>) -> EnergyEstimate
     ensures { result ≡ rtl_energy cfg pos remaining_wh }
 {
     let d = pos.horizontal_dist_home();

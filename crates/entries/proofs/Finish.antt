@@ -1,4 +1,5 @@
 -- What the marked step leaves is the call on kinds 10 and 9, from the values that the code has. Assumes nothing.
+use Rattle.std.specs.Prelude.{Some, None}
 use Prim.Native.Nat.{ℕ}
 use mathlib.Core.Bool.{Bool, true, false, cond}
 use mathlib.Core.List.{List}
@@ -6,7 +7,6 @@ use mathlib.Core.Path.{◌≡◌, refl, ap, sym, subst, ◌∙◌}
 use lib.Dec.{eqb, ltb}
 use lib.ListN.{length, drop, get_or}
 use borrow.Author.Tests.{eq-eqb, ne_eqb}
-use Rattle.types.specs.declared.OptionU32.{OptionU32}
 use Rattle.time.specs.Time.{plain}
 use Rattle.triggers.specs.Families.{gcs_age}
 use Rattle.wire.specs.Fields.{flag_at}
@@ -32,6 +32,12 @@ use Rattle.calls.specs.Form.{base, wide}
 use Rattle.calls.specs.Entry.{flight_keeps, StepCall, declined, output_size, succeeded, written, step_of, after_telemetry, after_state, from_state}
 use Rattle.calls.specs.Marked.{marked_flight, widened_after, low_state, low_telemetry, heartbeat_age, low_call, marked_call}
 use Rattle.calls.proofs.Marked.{marked_call_lem}
+use Rattle.std.specs.Bool.{then_some}
+
+-- a heartbeat that is given where there is one
+pub given : (present : Bool) (at : ℕ) → then_some present at ≡ cond present (Some at) None
+given true at = refl
+given false at = refl
 
 module _ (with_side : Bool) (f : Flight) (areas state telemetry output : List ℕ) (keeps : flight_keeps f ≡ false) (ok_s : frame_fault 10 304 state ≡ 0) (ok_t : frame_fault 9 148 telemetry ≡ 0) where
   -- the values, each as the code has it from those before
@@ -43,7 +49,7 @@ module _ (with_side : Bool) (f : Flight) (areas state telemetry output : List �
     pub stamp_marks_lem : tm ≡ stamps_listed (stamp_marks_of f.cfg (stamps_unlisted j))
     pub reading : rd ≡ telemetry_on tm telemetry
     pub heartbeat : present ≡ flag_at rd 77
-    pub old : age ≡ gcs_age plain (get_or j 0 0) (cond present (OptionU32.Some (get_or j 6 0)) OptionU32.None)
+    pub old : age ≡ gcs_age plain (get_or j 0 0) (cond present (Some (get_or j 6 0)) None)
     pub flight : mf ≡ marked_flight f age
 
   abbrev whole : StepCall
@@ -56,7 +62,7 @@ module _ (with_side : Bool) (f : Flight) (areas state telemetry output : List �
         let tm' = h.stamp_marks_lem ∙ (λ i. stamps_listed (stamp_marks_of f.cfg (stamps_unlisted (h.stamps i)))) in
         let rd' = h.reading ∙ ap (λ (q : List ℕ). telemetry_on q telemetry) tm' in
         let present' = h.heartbeat ∙ ap (λ (q : List ℕ). flag_at q 77) rd' in
-        h.flight ∙ ap (marked_flight f) (h.old ∙ (λ i. gcs_age plain (get_or (h.stamps i) 0 0) (cond (present' i) (OptionU32.Some (get_or (h.stamps i) 6 0)) OptionU32.None)))
+        h.flight ∙ ap (marked_flight f) (h.old ∙ (λ i. gcs_age plain (get_or (h.stamps i) 0 0) (cond (present' i) (Some (get_or (h.stamps i) 6 0)) None)))
 
     low_is : low ≡ low_state with_side f areas state telemetry output
     unfolding wide_instants wide_stamps stamps_unlisted

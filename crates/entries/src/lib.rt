@@ -18,6 +18,7 @@ ghost use Rattle.calls.specs.Marked.{marked_flight, refusal_of, widened_after};
 use flight::Flight;
 use frame_state::StateRead;
 use frame_telemetry::TelemetryRead;
+use frame_wide::StepInstants;
 use supervisor::Supervisor;
 use types::{Decision, Telemetry};
 
@@ -28,81 +29,77 @@ fn output_size(with_side: bool) -> usize
 }
 
 // The frame of kind 4; where the side is wanted, one byte more is put in, so that there is one call of the writer.
-fn write_output(with_side: bool, d: Decision, side: u8, output: &mut [u8])
+fn write_output(with_side: bool, d: &Decision, side: u8, output: &mut [u8])
     requires { output_size with_side ≤ length output.old }
-    ensures { output.new ≡ output_frame with_side d side ++ drop (output_size with_side) output.old }
+    ensures { output.new ≡ output_frame with_side d.now side ++ drop (output_size with_side) output.old }
 {
-    let eligible = d.disarm_eligible;
-    frame_decision::write_decision(output, d);
+    frame_decision::write_decision(output, *d);
     if with_side {
-        frame_side::put_side(output, side, eligible);
+        frame_side::put_side(output, side, d.disarm_eligible);
     }
 }
 
 // The step, where there is room for its Decision.
 fn step_write(
     with_side: bool,
-    flight: Flight,
+    flight: &Flight,
     areas: &[u8],
-    s: Supervisor,
-    t: Telemetry,
+    s: &Supervisor,
+    t: &Telemetry,
     state: &mut [u8],
     output: &mut [u8],
 ) -> u32
-    requires { length state.old ≡ 2 + state_length (flight_keeps flight) }
-    ensures value { result ≡ (written with_side (base (flight_keeps flight)) (step_flight flight areas.now s t) state.old output.old).number }
-    ensures state_after { state.new ≡ (written with_side (base (flight_keeps flight)) (step_flight flight areas.now s t) state.old output.old).state }
-    ensures output_after { output.new ≡ (written with_side (base (flight_keeps flight)) (step_flight flight areas.now s t) state.old output.old).output }
+    requires { length state.old ≡ 2 + state_length (flight_keeps flight.now) }
+    ensures value { result ≡ (written with_side (base (flight_keeps flight.now)) (step_flight flight.now areas.now s.now t.now) state.old output.old).number }
+    ensures state_after { state.new ≡ (written with_side (base (flight_keeps flight.now)) (step_flight flight.now areas.now s.now t.now) state.old output.old).state }
+    ensures output_after { output.new ≡ (written with_side (base (flight_keeps flight.now)) (step_flight flight.now areas.now s.now t.now) state.old output.old).output }
 {
     if output.len() < output_size(with_side) {
         return 5;
     }
-    let keeps = flight.cfg.keeps_raised;
     let next = flight::step_flight(flight, areas, s, t);
-    let after = next.supervisor;
-    let d = next.decision;
-    frame_state::write_state(state, keeps, after);
-    write_output(with_side, d, next.side, output);
+    frame_state::write_state(state, flight.cfg.keeps_raised, next.supervisor);
+    write_output(with_side, &next.decision, next.side, output);
     0
 }
 
 fn step_telemetry(
     with_side: bool,
-    flight: Flight,
+    flight: &Flight,
     areas: &[u8],
-    s: Supervisor,
+    s: &Supervisor,
     state: &mut [u8],
     telemetry: &[u8],
     output: &mut [u8],
 ) -> u32
-    requires { length state.old ≡ 2 + state_length (flight_keeps flight) }
-    ensures value { result ≡ (after_telemetry with_side (base (flight_keeps flight)) (read_telemetry telemetry.now) flight areas.now s state.old output.old).number }
-    ensures state_after { state.new ≡ (after_telemetry with_side (base (flight_keeps flight)) (read_telemetry telemetry.now) flight areas.now s state.old output.old).state }
-    ensures output_after { output.new ≡ (after_telemetry with_side (base (flight_keeps flight)) (read_telemetry telemetry.now) flight areas.now s state.old output.old).output }
+    requires { length state.old ≡ 2 + state_length (flight_keeps flight.now) }
+    ensures value { result ≡ (after_telemetry with_side (base (flight_keeps flight.now)) (read_telemetry telemetry.now) flight.now areas.now s.now state.old output.old).number }
+    ensures state_after { state.new ≡ (after_telemetry with_side (base (flight_keeps flight.now)) (read_telemetry telemetry.now) flight.now areas.now s.now state.old output.old).state }
+    ensures output_after { output.new ≡ (after_telemetry with_side (base (flight_keeps flight.now)) (read_telemetry telemetry.now) flight.now areas.now s.now state.old output.old).output }
 {
     match frame_telemetry::read_telemetry(telemetry) {
         TelemetryRead::Refused(n) => n as u32,
-        TelemetryRead::Frame(t) => step_write(with_side, flight, areas, s, t, state, output),
+        TelemetryRead::Frame(t) => step_write(with_side, flight, areas, s, &t, state, output),
     }
 }
 
 // State, then telemetry. Each refusal ends the call where it is found, so no blank state or Decision is handed on.
 fn step_state(
     with_side: bool,
-    flight: Flight,
+    flight: &Flight,
     areas: &[u8],
     state: &mut [u8],
     telemetry: &[u8],
     output: &mut [u8],
 ) -> u32
-    ensures value { result ≡ (from_state with_side (base (flight_keeps flight)) flight areas.now state.old telemetry.now output.old).number }
-    ensures state_after { state.new ≡ (from_state with_side (base (flight_keeps flight)) flight areas.now state.old telemetry.now output.old).state }
-    ensures output_after { output.new ≡ (from_state with_side (base (flight_keeps flight)) flight areas.now state.old telemetry.now output.old).output }
+    ensures value { result ≡ (from_state with_side (base (flight_keeps flight.now)) flight.now areas.now state.old telemetry.now output.old).number }
+    ensures state_after { state.new ≡ (from_state with_side (base (flight_keeps flight.now)) flight.now areas.now state.old telemetry.now output.old).state }
+    ensures output_after { output.new ≡ (from_state with_side (base (flight_keeps flight.now)) flight.now areas.now state.old telemetry.now output.old).output }
 {
     match frame_state::read_state(state, flight.cfg.keeps_raised) {
         StateRead::Refused(n) => n as u32,
         StateRead::Frame(s) => step_telemetry(
-            with_side, flight, areas, s, state, telemetry, output,
+            with_side, flight, areas, &s, state, telemetry, output,
         ),
     }
 }
@@ -114,7 +111,7 @@ fn first_refusal(refused: u16, areas: &[u8]) -> u16
     if refused != 0 {
         return refused;
     }
-    if areas.len() == 0 {
+    if areas.is_empty() {
         return 0;
     }
     frame_areas::areas_fault(areas)
@@ -125,37 +122,26 @@ fn first_refusal(refused: u16, areas: &[u8]) -> u16
 fn is_wide(keeps: bool, state: &[u8]) -> bool
     ensures { result ≡ not keeps && eqb (u16_at state.now 2) 10 }
 {
-    if keeps {
-        false
-    } else {
-        wire::u16_at(state, 2) == 10
-    }
+    !keeps && wire::u16_at(state, 2) == 10
 }
 
-fn marked_flight(flight: Flight, age: u64) -> Flight
-    ensures { result ≡ marked_flight flight age }
+fn marked_flight(flight: &Flight, age: u64) -> Flight
+    ensures { result ≡ marked_flight flight.now age }
 {
-    let cfg = flight.cfg;
-    let fence = flight.fence;
-    let lengths = flight.lengths;
     Flight {
-        refused: flight.refused,
-        cfg: marks::mark_config(cfg, age),
-        fence: fence,
-        lengths: lengths,
+        cfg: marks::mark_config(&flight.cfg, age),
+        ..*flight
     }
 }
 
 // Whether a kind 5 is refused for a field out of range. It is asked by a step without telemetry, which answers 1 where the state is accepted: so `read_state`
 // has one caller, and the compiler puts it into the step.
-fn state_fault(flight: Flight, areas: &[u8], low: &mut [u8]) -> u32
-    requires { frame_fault (state_kind (flight_keeps flight)) (state_length (flight_keeps flight)) low.old ≡ 0 }
-    ensures value { result ≡ refusal_of (read_state (flight_keeps flight) low.old) }
+fn state_fault(flight: &Flight, areas: &[u8], low: &mut [u8]) -> u32
+    requires { frame_fault (state_kind (flight_keeps flight.now)) (state_length (flight_keeps flight.now)) low.old ≡ 0 }
+    ensures value { result ≡ refusal_of (read_state (flight_keeps flight.now) low.old) }
     ensures low_unchanged { low.new ≡ low.old }
 {
-    let none = [0u8; 0];
-    let mut output = [0u8; 0];
-    let n = step_state(false, flight, areas, low, &none, &mut output);
+    let n = step_state(false, flight, areas, low, &[], &mut []);
     if n == 1 { 0 } else { n }
 }
 
@@ -163,73 +149,78 @@ fn state_fault(flight: Flight, areas: &[u8], low: &mut [u8]) -> u32
 fn widen_after(
     state: &mut [u8],
     low: &[u8],
-    x: [u64; 30],
+    x: &[u64; 30],
     reading: u64,
     position: u64,
     output: &[u8],
 )
     requires { (length state.old ≡ 306) × (length low.now ≡ 186) }
-    ensures { state.new ≡ widened_after state.old low.now (unlisted x) reading position output.now }
+    ensures { state.new ≡ widened_after state.old low.now (unlisted x.now) reading position output.now }
 {
-    let dist = wire::flag_at(output, 89);
     let fault = wire::flag_at(output, 65);
-    let third = fault & (wire::u8_at(low, 184) == 0);
-    let next = frame_wide::instants_next(state, x, reading, position, dist, fault, third);
-    frame_wide::widen_state(low, next, state);
+    let step = StepInstants {
+        reading,
+        position,
+        distance: wire::flag_at(output, 89),
+        fault,
+        third_fault: fault & (wire::u8_at(low, 184) == 0),
+    };
+    let next = frame_wide::instants_next(state, x, &step);
+    frame_wide::widen_state(low, &next, state);
 }
 
 // The step, where both heads are those of kinds 10 and 9.
 fn step_marked(
     with_side: bool,
-    flight: Flight,
+    flight: &Flight,
     areas: &[u8],
     state: &mut [u8],
     telemetry: &[u8],
     output: &mut [u8],
 ) -> u32
-    requires { (flight_keeps flight ≡ false) × (frame_fault 10 304 state.old ≡ 0) × (frame_fault 9 148 telemetry.now ≡ 0) }
-    ensures value { result ≡ (from_state with_side wide flight areas.now state.old telemetry.now output.old).number }
-    ensures state_after { state.new ≡ (from_state with_side wide flight areas.now state.old telemetry.now output.old).state }
-    ensures output_after { output.new ≡ (from_state with_side wide flight areas.now state.old telemetry.now output.old).output }
+    requires { (flight_keeps flight.now ≡ false) × (frame_fault 10 304 state.old ≡ 0) × (frame_fault 9 148 telemetry.now ≡ 0) }
+    ensures value { result ≡ (from_state with_side wide flight.now areas.now state.old telemetry.now output.old).number }
+    ensures state_after { state.new ≡ (from_state with_side wide flight.now areas.now state.old telemetry.now output.old).state }
+    ensures output_after { output.new ≡ (from_state with_side wide flight.now areas.now state.old telemetry.now output.old).output }
 {
-    let cfg = flight.cfg;
     let x = frame_wide::state_instants(state);
     let j = frame_wide::telemetry_instants(telemetry);
-    let mut low = frame_wide::state_on(state, marks::state_marks(cfg, j[0], x));
-    let reading = frame_wide::telemetry_on(telemetry, marks::telemetry_marks(cfg, j));
-    let age = marks::heartbeat_age(j[0], wire::flag_at(&reading, 77), j[6]);
+    let mut low = frame_wide::state_on(state, &marks::state_marks(&flight.cfg, j[0], &x));
+    let reading = frame_wide::telemetry_on(telemetry, &marks::telemetry_marks(&flight.cfg, &j));
+    let heartbeat = wire::flag_at(&reading, 77).then_some(j[6]);
+    let age = marks::heartbeat_age(j[0], heartbeat);
     let marked = marked_flight(flight, age);
-    let n = step_state(with_side, marked, areas, &mut low, &reading, output);
+    let n = step_state(with_side, &marked, areas, &mut low, &reading, output);
     if n == 0 {
-        widen_after(state, &low, x, j[0], j[1], output);
+        widen_after(state, &low, &x, j[0], j[1], output);
     }
     n
 }
 
 // Telemetry whose head is refused: the state's own refusal comes first.
-fn late_refusal(flight: Flight, areas: &[u8], state: &[u8], late: u16) -> u32
-    requires { (flight_keeps flight ≡ false) × (frame_fault 10 304 state.now ≡ 0) }
+fn late_refusal(flight: &Flight, areas: &[u8], state: &[u8], late: u16) -> u32
+    requires { (flight_keeps flight.now ≡ false) × (frame_fault 10 304 state.now ≡ 0) }
     ensures { result ≡ or_refused (refusal_of (read_state false (state_on (replicate 30 0) state.now))) late }
 {
-    let zeros = [0u32; 30];
-    let mut low = frame_wide::state_on(state, zeros);
+    let mut low = frame_wide::state_on(state, &[0; 30]);
     let n = state_fault(flight, areas, &mut low);
     if n == 0 { late as u32 } else { n }
 }
 
-// A step on a state of kind 10, beside a configuration of kind 1.
+// A step on a state of kind 10, beside a configuration of kind 1. A function of its own, so that a 32-bit step has neither its stack nor its registers.
+#[inline(never)]
 fn step_wide(
     with_side: bool,
-    flight: Flight,
+    flight: &Flight,
     areas: &[u8],
     state: &mut [u8],
     telemetry: &[u8],
     output: &mut [u8],
 ) -> u32
-    requires { flight_keeps flight ≡ false }
-    ensures value { result ≡ (from_state with_side wide flight areas.now state.old telemetry.now output.old).number }
-    ensures state_after { state.new ≡ (from_state with_side wide flight areas.now state.old telemetry.now output.old).state }
-    ensures output_after { output.new ≡ (from_state with_side wide flight areas.now state.old telemetry.now output.old).output }
+    requires { flight_keeps flight.now ≡ false }
+    ensures value { result ≡ (from_state with_side wide flight.now areas.now state.old telemetry.now output.old).number }
+    ensures state_after { state.new ≡ (from_state with_side wide flight.now areas.now state.old telemetry.now output.old).state }
+    ensures output_after { output.new ≡ (from_state with_side wide flight.now areas.now state.old telemetry.now output.old).output }
 {
     let fault = wire::frame_fault(state, 10, 304);
     if fault != 0 {
@@ -263,9 +254,8 @@ fn step_or_check(
         return fault as u32;
     }
     let read = frame_fence::read_fence(fence);
-    let unread = read.refused;
-    if unread != 0 {
-        return unread as u32;
+    if read.refused != 0 {
+        return read.refused as u32;
     }
     let flight = flight::accept_frame(&config[0..246], read);
     let refused = first_refusal(flight.refused, areas);
@@ -276,14 +266,9 @@ fn step_or_check(
         return 0;
     }
     if is_wide(flight.cfg.keeps_raised, state) {
-        // Called twice, so that the compiler leaves it a function of its own: a 32-bit step has neither its stack nor its registers.
-        if with_side {
-            step_wide(true, flight, areas, state, telemetry, output)
-        } else {
-            step_wide(false, flight, areas, state, telemetry, output)
-        }
+        step_wide(with_side, &flight, areas, state, telemetry, output)
     } else {
-        step_state(with_side, flight, areas, state, telemetry, output)
+        step_state(with_side, &flight, areas, state, telemetry, output)
     }
 }
 
@@ -310,19 +295,7 @@ pub fn step_any(
 pub fn check(config: &[u8], fence: &[u8]) -> u32
     ensures { result ≡ (read_flight config.now fence.now).refused }
 {
-    let mut state = [0u8; 1];
-    let mut output = [0u8; 1];
-    let none = [0u8; 0];
-    step_or_check(
-        true,
-        false,
-        config,
-        fence,
-        &mut state,
-        fence,
-        &mut output,
-        &none,
-    )
+    step_or_check(true, false, config, fence, &mut [], &[], &mut [], &[])
 }
 
 // A fresh state into the first 186 bytes, or 194 where it is for a configuration of kind 11; later bytes stay.
@@ -330,8 +303,7 @@ pub fn fresh(keeps: bool, state: &mut [u8]) -> u32
     ensures value { result ≡ (fresh_call (base keeps) state.old).number }
     ensures state_after { state.new ≡ (fresh_call (base keeps) state.old).state }
 {
-    let n = frame_state::write_fresh(state, keeps);
-    n as u32
+    frame_state::write_fresh(state, keeps) as u32
 }
 
 // The same of kind 10, into the first 306 bytes: its body is zero bytes alone.
@@ -359,9 +331,7 @@ fn old_fault(old: &[u8]) -> u32
     }
     let mut low = [0u8; 186];
     slices::copy(old, &mut low);
-    let none = [0u8; 0];
-    let flight = flight::refused_flight(0);
-    state_fault(flight, &none, &mut low)
+    state_fault(&flight::refused_flight(0), &[], &mut low)
 }
 
 // An accepted state on the 64-bit clock, into the first 306 bytes; later bytes stay.
@@ -377,7 +347,7 @@ fn carry_over(old: &[u8], last_now: u64, new: &mut [u8]) -> u32
     if new.len() < 306 {
         return 5;
     }
-    frame_wide::widen_state(old, carry::instants(old, last_now), new);
+    frame_wide::widen_state(old, &carry::instants(old, last_now), new);
     0
 }
 

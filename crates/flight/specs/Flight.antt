@@ -1,13 +1,12 @@
 -- Configuration and fence of a flight. Document 01, 'When a call declines': "Across: configuration frame, fence frame, fence rules,
 -- configuration rules, state, telemetry, output." Assumes nothing.
-use Rattle.std.specs.Prelude.{ℕ, cond, List, eqb, Float, replicate}
+use Rattle.std.specs.Prelude.{ℕ, cond, List, eqb, Float, replicate, Result, Ok, Err}
 use Rattle.std.specs.Float.Ieee.{le}
 use Rattle.geometry.specs.declared.GeofenceResult.{GeofenceResult}
 use Rattle.geometry.specs.declared.SideLengths.{SideLengths}
 use Rattle.geometry.specs.Polygon.{zero_point}
 use Rattle.geometry.specs.Distance.{ring_of, side_lengths}
 use Rattle.config.specs.declared.Config.{Config}
-use Rattle.config.specs.declared.ConfigResult.{ConfigResult}
 use Rattle.config.specs.Config.{config_error_number, check_config, validate_config}
 use Rattle.config.specs.Default.{default_config}
 use Rattle.float32.specs.Binary32.{zero_f}
@@ -21,14 +20,15 @@ use Rattle.frame_config.specs.ConfigFrame.{read_config}
 use Rattle.frame_fence.specs.declared.FenceRead.{FenceRead}
 use Rattle.frame_fence.specs.FenceFrame.{read_fence, fence_of, fence_number}
 use Rattle.flight.specs.declared.Flight.{Flight}
+use Rattle.config.specs.declared.ConfigError.{ConfigError}
 
 -- the first of two refusals; 0 is none
 abbrev pub or_refused : ℕ → ℕ → ℕ
 or_refused a b = cond (eqb a 0) b a
 
-abbrev pub config_number : ConfigResult → ℕ
-config_number ConfigResult.Ok = 0
-config_number (ConfigResult.Err e) = config_error_number e
+abbrev pub config_number : {A : Type 0} → Result A ConfigError → ℕ
+config_number (Ok a) = 0
+config_number (Err e) = config_error_number e
 
 -- "fence rules, configuration rules"
 unfoldable pub accept_flight : Config → FenceRead → Flight

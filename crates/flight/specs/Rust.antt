@@ -13,7 +13,7 @@ use Rattle.flight.specs.Flight.{or_refused, config_number, accept_flight, step_f
 pub record RustClaim : Type 0 where
   -- what was read is refused by the fence's rules, or as `Supervisor::new` refuses it
   pub refused : (cfg : Config) (read : FenceRead)
-      → (accept_flight cfg read).refused ≡ or_refused (fence_number (fence_of read).result) (config_number (supervisor_new cfg (fence_of read).fence).result)
+      → (accept_flight cfg read).refused ≡ or_refused (fence_number (fence_of read).result) (config_number (supervisor_new cfg (fence_of read).fence))
   -- and a step without areas is `Supervisor::step`'s, over that configuration and fence
   pub stepped : (cfg : Config) (read : FenceRead) (s : Supervisor) (t : Telemetry)
       → step_flight (accept_flight cfg read) [] s t ≡ step (base_settings cfg) s (fed_at (fence_site (fence_of read).fence) t)

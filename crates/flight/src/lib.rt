@@ -7,7 +7,7 @@ ghost use Rattle.geometry.specs.Distance.{ring_of, side_lengths, nearest_by};
 ghost use Rattle.frame_config.specs.ConfigFrame.{keeps_raised, config_at};
 ghost use Rattle.flight.specs.Flight.{or_refused, config_number, refused_flight, flight_by, accept_flight, step_flight};
 
-use config::{Config, ConfigResult};
+use config::{Config, ConfigError};
 use frame_fence::FenceRead;
 use geometry::{ConvexPolygon, Geofence, GeofenceResult, SideLengths};
 use supervisor::{Stepped, Supervisor};
@@ -30,12 +30,12 @@ pub fn or_refused(a: u16, b: u16) -> u16
     if a == 0 { b } else { a }
 }
 
-fn config_number(r: ConfigResult) -> u16
+fn config_number(r: Result<(), ConfigError>) -> u16
     ensures { result ≡ config_number r }
 {
     match r {
-        ConfigResult::Ok => 0,
-        ConfigResult::Err(e) => e.number(),
+        Ok(()) => 0,
+        Err(e) => e.number(),
     }
 }
 
@@ -122,11 +122,8 @@ pub fn refused_flight(n: u16) -> Flight
 }
 
 // One step of an accepted flight, with the frame of the keep-out areas.
-pub fn step_flight(flight: Flight, areas: &[u8], s: Supervisor, t: Telemetry) -> Stepped
-    ensures { result ≡ step_flight flight areas.now s t }
+pub fn step_flight(flight: &Flight, areas: &[u8], s: &Supervisor, t: &Telemetry) -> Stepped
+    ensures { result ≡ step_flight flight.now areas.now s.now t.now }
 {
-    let cfg = flight.cfg;
-    let fence = flight.fence;
-    let lengths = flight.lengths;
-    s.step_by(cfg, fence, lengths, areas, t)
+    s.step_by(&flight.cfg, &flight.fence, &flight.lengths, areas, t)
 }

@@ -1,18 +1,17 @@
 -- Both round trips of a Decision frame. A NaN is one value here, so value, bytes, value says nothing of its bits; bytes, value, bytes gives the same bytes
 -- but for those of a NaN. Assumes nothing.
+use Rattle.std.specs.Prelude.{Some, None, unwrap_or}
 use Prim.Native.Nat.{ℕ, ◌+◌}
 use mathlib.Core.Path.{◌≡◌, ◌∙◌, ap, refl, sym}
-use mathlib.Core.List.{List, [], ◌∷◌, ◌++◌, map}
+use mathlib.Core.List.{List, [], ◌∷◌, ◌++◌}
 use mathlib.Core.Bool.{Bool, true, false, cond, ◌&&◌, false≢true}
 use native.Mathlib.Omega.{arith}
 use lib.Dec.{T, eqb}
 use lib.ListN.{length, get_or}
-use lib.Ieee.{binary32, fits}
+use lib.Ieee.{binary32, fits, of_bits}
 use lib.Ieee.Bits.{of_bits-fits}
 use borrow.Author.Tests.{eqb-true, eq-eqb}
-use Rattle.types.specs.declared.OptionF32.{OptionF32}
 use Rattle.types.specs.declared.Decision.{Decision}
-use Rattle.types.specs.ActiveSet.{no_request}
 use Rattle.wire.specs.Fields.{Bytes, u8_at, number_at, u16_at, flag_at, u32_at, f32_at, byte_below, le8, le_flag, le_bytes, le16, le32, le_f32, elements_from}
 use Rattle.wire.specs.Cell.{NoNan, nan_rewritten}
 use Rattle.wire.specs.Frame.{frame_fault, frame_head}
@@ -20,46 +19,46 @@ use Rattle.wire.proofs.Fields.{flag_back, flag_valid, f32_back, flag_bytes, f32_
 use Rattle.wire.proofs.Head.{head_says, head_bytes}
 use Rattle.wire.proofs.Whole.{whole, each}
 use Rattle.wire.proofs.Cells.{nan_free}
-use Rattle.options.specs.Options.{zeros, valid_option, f32_or_zero, option_f32_at, le_option_f32}
+use Rattle.options.specs.Options.{zeros, valid_option, option_f32_at, le_option_f32}
 use Rattle.options.specs.Enums.{action_at, reason_at, le_action, le_reason}
 use Rattle.options.proofs.Options.{option_f32_back, option_f32_valid, option_f32_bytes}
 use Rattle.options.proofs.Enums.{action_back, reason_back, action_valid, reason_valid, action_bytes, reason_bytes}
-use Rattle.frame_decision.specs.Slots.{slot_at, slots_at, slot_valid, slots_valid, le_slot, le_slots, canonical_slot, Canonical}
-use Rattle.frame_decision.specs.DecisionFrame.{estimate_at, decision_at, decision_tests, decision_valid, accepted, refused_with, read_decision, le_estimate, decision_frame, decision_sorts, canonical, Typed}
-use Rattle.frame_decision.proofs.Slots.{slot_back, slot_valid_lem, slots_bytes, slots_canonical, slots_same}
+use Rattle.frame_decision.specs.Slots.{slot_at, slots_at, slot_valid, slots_valid, le_slot, le_slots}
+use Rattle.frame_decision.specs.DecisionFrame.{estimate_at, decision_at, decision_tests, decision_valid, accepted, refused_with, read_decision, le_estimate, decision_frame, decision_sorts, Typed}
+use Rattle.frame_decision.proofs.Slots.{slot_back, slot_valid_lem, slots_bytes}
 
 -- ---- value, bytes, value
 
-slots_each : (d : Decision) → slots_at (decision_frame d) 19 ≡ map canonical_slot (elements_from no_request d.active.reqs 0 19)
+slots_each : (d : Decision) → slots_at (decision_frame d) 19 ≡ elements_from None d.active.reqs 0 19
 unfolding slots_at slot_at reason_at action_at decision_frame frame_head le_action le_reason le_slots le_slot le_estimate le_option_f32 le_f32 le8 le16 le32 le_bytes le_flag u8_at flag_at
 slots_each d =
     let l = d.active.reqs in
     λ i.
-    slot_back (get_or l 0 no_request) i ∷
-    slot_back (get_or l 1 no_request) i ∷
-    slot_back (get_or l 2 no_request) i ∷
-    slot_back (get_or l 3 no_request) i ∷
-    slot_back (get_or l 4 no_request) i ∷
-    slot_back (get_or l 5 no_request) i ∷
-    slot_back (get_or l 6 no_request) i ∷
-    slot_back (get_or l 7 no_request) i ∷
-    slot_back (get_or l 8 no_request) i ∷
-    slot_back (get_or l 9 no_request) i ∷
-    slot_back (get_or l 10 no_request) i ∷
-    slot_back (get_or l 11 no_request) i ∷
-    slot_back (get_or l 12 no_request) i ∷
-    slot_back (get_or l 13 no_request) i ∷
-    slot_back (get_or l 14 no_request) i ∷
-    slot_back (get_or l 15 no_request) i ∷
-    slot_back (get_or l 16 no_request) i ∷
-    slot_back (get_or l 17 no_request) i ∷
-    slot_back (get_or l 18 no_request) i ∷
+    slot_back (get_or l 0 None) i ∷
+    slot_back (get_or l 1 None) i ∷
+    slot_back (get_or l 2 None) i ∷
+    slot_back (get_or l 3 None) i ∷
+    slot_back (get_or l 4 None) i ∷
+    slot_back (get_or l 5 None) i ∷
+    slot_back (get_or l 6 None) i ∷
+    slot_back (get_or l 7 None) i ∷
+    slot_back (get_or l 8 None) i ∷
+    slot_back (get_or l 9 None) i ∷
+    slot_back (get_or l 10 None) i ∷
+    slot_back (get_or l 11 None) i ∷
+    slot_back (get_or l 12 None) i ∷
+    slot_back (get_or l 13 None) i ∷
+    slot_back (get_or l 14 None) i ∷
+    slot_back (get_or l 15 None) i ∷
+    slot_back (get_or l 16 None) i ∷
+    slot_back (get_or l 17 None) i ∷
+    slot_back (get_or l 18 None) i ∷
     []
 
-slots : (d : Decision) → length d.active.reqs ≡ 19 → slots_at (decision_frame d) 19 ≡ map canonical_slot d.active.reqs
-slots d e = slots_each d ∙ ap (map canonical_slot) (whole no_request 19 d.active.reqs e)
+slots : (d : Decision) → length d.active.reqs ≡ 19 → slots_at (decision_frame d) 19 ≡ d.active.reqs
+slots d e = slots_each d ∙ whole None 19 d.active.reqs e
 
-fields : (d : Decision) → Typed d → decision_at (decision_frame d) ≡ canonical d
+fields : (d : Decision) → Typed d → decision_at (decision_frame d) ≡ d
 unfolding decision_at estimate_at option_f32_at reason_at action_at decision_frame frame_head le_action le_reason le_slots le_slot le_estimate le_option_f32 le_f32 le8 le16 le32 le_bytes le_flag u8_at number_at flag_at u32_at f32_at
 fields d t =
     λ i.
@@ -93,25 +92,25 @@ slots_valid_lem d =
     let l = d.active.reqs in
     λ i.
     true
-    && slot_valid_lem (get_or l 0 no_request) i
-    && slot_valid_lem (get_or l 1 no_request) i
-    && slot_valid_lem (get_or l 2 no_request) i
-    && slot_valid_lem (get_or l 3 no_request) i
-    && slot_valid_lem (get_or l 4 no_request) i
-    && slot_valid_lem (get_or l 5 no_request) i
-    && slot_valid_lem (get_or l 6 no_request) i
-    && slot_valid_lem (get_or l 7 no_request) i
-    && slot_valid_lem (get_or l 8 no_request) i
-    && slot_valid_lem (get_or l 9 no_request) i
-    && slot_valid_lem (get_or l 10 no_request) i
-    && slot_valid_lem (get_or l 11 no_request) i
-    && slot_valid_lem (get_or l 12 no_request) i
-    && slot_valid_lem (get_or l 13 no_request) i
-    && slot_valid_lem (get_or l 14 no_request) i
-    && slot_valid_lem (get_or l 15 no_request) i
-    && slot_valid_lem (get_or l 16 no_request) i
-    && slot_valid_lem (get_or l 17 no_request) i
-    && slot_valid_lem (get_or l 18 no_request) i
+    && slot_valid_lem (get_or l 0 None) i
+    && slot_valid_lem (get_or l 1 None) i
+    && slot_valid_lem (get_or l 2 None) i
+    && slot_valid_lem (get_or l 3 None) i
+    && slot_valid_lem (get_or l 4 None) i
+    && slot_valid_lem (get_or l 5 None) i
+    && slot_valid_lem (get_or l 6 None) i
+    && slot_valid_lem (get_or l 7 None) i
+    && slot_valid_lem (get_or l 8 None) i
+    && slot_valid_lem (get_or l 9 None) i
+    && slot_valid_lem (get_or l 10 None) i
+    && slot_valid_lem (get_or l 11 None) i
+    && slot_valid_lem (get_or l 12 None) i
+    && slot_valid_lem (get_or l 13 None) i
+    && slot_valid_lem (get_or l 14 None) i
+    && slot_valid_lem (get_or l 15 None) i
+    && slot_valid_lem (get_or l 16 None) i
+    && slot_valid_lem (get_or l 17 None) i
+    && slot_valid_lem (get_or l 18 None) i
 
 valid : (d : Decision) → decision_valid (decision_frame d) ≡ true
 unfolding decision_valid valid_option zeros byte_below decision_frame frame_head le_action le_reason le_slots le_slot le_estimate le_option_f32 le_f32 le8 le16 le32 le_bytes le_flag u8_at
@@ -129,33 +128,9 @@ valid d =
     && option_f32_valid d.fence_dist_m i
     && flag_valid d.disarm_eligible i
 
--- value, bytes, value: for each Decision, up to what its absent slots hold
-pub value_back : (d : Decision) → Typed d → read_decision (decision_frame d) ≡ accepted (canonical d)
+pub value_back : (d : Decision) → Typed d → read_decision (decision_frame d) ≡ accepted d
 unfolding read_decision
 value_back d t = simp (head d, valid d, fields d t)
-
--- the very Decision, where each absent slot holds None and Nominal, as filing leaves it
-pub value_same : (d : Decision) → Typed d → Canonical d.active.reqs → read_decision (decision_frame d) ≡ accepted d
-value_same d t k =
-    value_back d t
-    ∙ (λ i.
-    accepted
-    (record {
-      action = d.action;
-      reason = d.reason;
-      requested = d.requested;
-      active = record { reqs = k i };
-      position_valid = d.position_valid;
-      clock_fault = d.clock_fault;
-      energy = d.energy;
-      fence_dist_m = d.fence_dist_m;
-      disarm_eligible = d.disarm_eligible;
-    }))
-
--- a frame's bytes do not depend on what absent slots hold
-pub frame_canonical : (d : Decision) → decision_frame (canonical d) ≡ decision_frame d
-unfolding decision_frame
-frame_canonical d = rw slots_same
 
 -- ---- bytes, value, bytes
 
@@ -217,17 +192,12 @@ module _ (s : List ℕ) (e : (read_decision s).refused ≡ 0) where
   pub bytes_same : Bytes s → NoNan decision_sorts s 0 → decision_frame (read_decision s).decision ≡ s
   bytes_same b n = bytes_back b ∙ nan_free decision_sorts s 0 b n ∙ whole 0 95 s (head_says 4 93 s sound).1.1
 
-  -- what was read has None and Nominal in each absent slot, so it is written and read again as the very same
-  pub read_canonical : Canonical (read_decision s).decision.active.reqs
-  unfolding decision_valid decision_at
-  read_canonical = rw read_is (slots_canonical s 19 (each (slots_valid s 19) (decision_tests s) accepts.1).0)
-
--- and is within its types
-option_fits : (s : List ℕ) (i : ℕ) → T (fits binary32 (f32_or_zero (option_f32_at s i)))
+-- what was read is within its types
+option_fits : (s : List ℕ) (i : ℕ) → T (fits binary32 (unwrap_or (option_f32_at s i) (of_bits binary32 0)))
 unfolding option_f32_at
 option_fits s i = go (flag_at s i)
   where
-    go : (b : Bool) → T (fits binary32 (f32_or_zero (cond b (OptionF32.Some (f32_at s (i + 1))) OptionF32.None)))
+    go : (b : Bool) → T (fits binary32 (unwrap_or (cond b (Some (f32_at s (i + 1))) None) (of_bits binary32 0)))
     go true = f32_fits s (i + 1)
     go false = of_bits-fits binary32 0
 

@@ -1,20 +1,19 @@
 -- Kind 4, Decision: "Body fields stand in the Rust's declared order". Assumes nothing.
-use Rattle.std.specs.Prelude.{ℕ, ◌≡◌, List, [], ◌∷◌, ◌++◌, map, Bool, false, cond, T, eqb, length, replicate}
+use Rattle.std.specs.Prelude.{ℕ, ◌≡◌, List, [], ◌∷◌, ◌++◌, Bool, false, cond, T, eqb, length, replicate, None, unwrap_or}
 use Rattle.std.specs.Float.{binary32}
 use Rattle.std.specs.Float.Ieee.{fits, of_bits}
 use Rattle.types.specs.declared.Action.{Action}
 use Rattle.types.specs.declared.Reason.{Reason}
-use Rattle.types.specs.declared.OptionF32.{OptionF32}
 use Rattle.types.specs.declared.EnergyEstimate.{EnergyEstimate}
 use Rattle.types.specs.declared.Decision.{Decision}
 use Rattle.types.specs.ActiveSet.{empty_set}
 use Rattle.wire.specs.Fields.{flag_at, f32_at, byte_below, le_flag, le_f32}
 use Rattle.wire.specs.Cell.{Sort, U8, Flag, U16, F32}
 use Rattle.wire.specs.Frame.{frame_fault, frame_head, all_true}
-use Rattle.options.specs.Options.{valid_option, f32_or_zero, option_f32_at, le_option_f32}
+use Rattle.options.specs.Options.{valid_option, option_f32_at, le_option_f32}
 use Rattle.options.specs.Enums.{action_at, reason_at, le_action, le_reason}
 use Rattle.frame_decision.specs.declared.DecisionRead.{DecisionRead}
-use Rattle.frame_decision.specs.Slots.{slots_at, slots_valid, le_slots, canonical_slot}
+use Rattle.frame_decision.specs.Slots.{slots_at, slots_valid, le_slots}
 
 -- the fields in their places, after the four bytes of the head
 unfoldable pub estimate_at : List ℕ → EnergyEstimate
@@ -75,11 +74,11 @@ blank_decision =
             rtl_wh = of_bits binary32 0;
             land_wh = of_bits binary32 0;
             reserve_wh = of_bits binary32 0;
-            remaining_wh = OptionF32.None;
-            margin_wh = OptionF32.None;
+            remaining_wh = None;
+            margin_wh = None;
             insufficient_for_landing = false;
           };
-      fence_dist_m = OptionF32.None;
+      fence_dist_m = None;
       disarm_eligible = false;
     }
 
@@ -124,27 +123,12 @@ abbrev pub decision_sorts : List Sort
 decision_sorts =
     U16 ∷ U16 ∷ replicate 60 U8 ++ (Flag ∷ Flag ∷ F32 ∷ F32 ∷ F32 ∷ U8 ∷ F32 ∷ U8 ∷ F32 ∷ Flag ∷ U8 ∷ F32 ∷ Flag ∷ [])
 
--- the same Decision, with None and Nominal in each absent slot
-abbrev pub canonical : Decision → Decision
-canonical d =
-    record {
-      action = d.action;
-      reason = d.reason;
-      requested = d.requested;
-      active = record { reqs = map canonical_slot d.active.reqs };
-      position_valid = d.position_valid;
-      clock_fault = d.clock_fault;
-      energy = d.energy;
-      fence_dist_m = d.fence_dist_m;
-      disarm_eligible = d.disarm_eligible;
-    }
-
 -- what each Decision in a program has by its type: nineteen slots, and floats of binary32
 pub record Typed (d : Decision) : Type 0 where
   pub nineteen : length d.active.reqs ≡ 19
   pub rtl : T (fits binary32 d.energy.rtl_wh)
   pub land : T (fits binary32 d.energy.land_wh)
   pub reserve : T (fits binary32 d.energy.reserve_wh)
-  pub remaining : T (fits binary32 (f32_or_zero d.energy.remaining_wh))
-  pub margin : T (fits binary32 (f32_or_zero d.energy.margin_wh))
-  pub fence : T (fits binary32 (f32_or_zero d.fence_dist_m))
+  pub remaining : T (fits binary32 (unwrap_or d.energy.remaining_wh (of_bits binary32 0)))
+  pub margin : T (fits binary32 (unwrap_or d.energy.margin_wh (of_bits binary32 0)))
+  pub fence : T (fits binary32 (unwrap_or d.fence_dist_m (of_bits binary32 0)))

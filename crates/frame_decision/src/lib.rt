@@ -8,7 +8,7 @@ ghost use Rattle.wire.specs.Laid.{laid};
 ghost use Rattle.frame_decision.specs.Slots.{slot_at, slots_at, slot_valid, slots_valid, le_slot, le_slots};
 ghost use Rattle.frame_decision.specs.DecisionFrame.{estimate_at, decision_at, decision_valid, blank_decision, refused_with, read_decision, le_estimate, decision_frame};
 
-use types::{Action, ActiveSet, Decision, EnergyEstimate, OptionF32, Reason, Slot};
+use types::{Action, ActiveSet, Decision, EnergyEstimate, Reason, Request};
 
 // What a frame gives: 0 and its Decision, or the refusal number and a blank one.
 #[derive(Clone, Copy)]
@@ -17,30 +17,26 @@ pub struct DecisionRead {
     pub decision: Decision,
 }
 
-fn slot_at(s: &[u8], at: usize) -> Slot
+fn slot_at(s: &[u8], at: usize) -> Option<Request>
     requires { at < 256 }
     ensures { result ≡ slot_at s.now at }
 {
-    let present = wire::flag_at(s, at);
-    let reason = options::reason_at(s, at + 1);
-    let action = options::action_at(s, at + 2);
-    Slot {
-        present,
-        reason,
-        action,
+    if wire::flag_at(s, at) {
+        Some(Request {
+            reason: options::reason_at(s, at + 1),
+            action: options::action_at(s, at + 2),
+        })
+    } else {
+        None
     }
 }
 
 fn slots_at(s: &[u8]) -> ActiveSet
     ensures { result.reqs ≡ slots_at s.now 19 }
 {
-    let x = types::no_request();
-    let mut reqs = [x; 19];
-    let mut i: usize = 0;
-    while i < 19 {
-        let y = slot_at(s, 7 + 3 * i);
-        reqs[i] = y;
-        i += 1;
+    let mut reqs = [None; 19];
+    for i in 0..19 {
+        reqs[i] = slot_at(s, 7 + 3 * i);
     }
     ActiveSet { reqs }
 }
@@ -62,11 +58,8 @@ fn slot_valid(s: &[u8], at: usize) -> bool
 fn slots_valid(s: &[u8]) -> bool
     ensures { result ≡ slots_valid s.now 19 }
 {
-    let mut i: usize = 0;
-    while i < 19 {
-        if slot_valid(s, 7 + 3 * i) {
-            i += 1;
-        } else {
+    for i in 0..19 {
+        if !slot_valid(s, 7 + 3 * i) {
             return false;
         }
     }
@@ -127,8 +120,8 @@ fn blank_decision() -> Decision
         rtl_wh: 0.0,
         land_wh: 0.0,
         reserve_wh: 0.0,
-        remaining_wh: OptionF32::None,
-        margin_wh: OptionF32::None,
+        remaining_wh: None,
+        margin_wh: None,
         insufficient_for_landing: false,
     };
     Decision {
@@ -138,8 +131,8 @@ fn blank_decision() -> Decision
         active: ActiveSet::new(),
         position_valid: false,
         clock_fault: false,
-        energy: energy,
-        fence_dist_m: OptionF32::None,
+        energy,
+        fence_dist_m: None,
         disarm_eligible: false,
     }
 }
@@ -172,17 +165,15 @@ pub fn read_decision(s: &[u8]) -> DecisionRead
     }
 }
 
-// An absent request is three bytes of 0, whatever reason and action the slot holds. They stand there already.
-fn put_slot(s: &mut [u8], at: usize, x: Slot)
+// An absent request is three bytes of 0, which stand there already.
+fn put_slot(s: &mut [u8], at: usize, slot: Option<Request>)
     requires { at < 256 }
-    ensures { s.new ≡ laid s.old at (le_slot x) }
+    ensures { s.new ≡ laid s.old at (le_slot slot) }
 {
-    let reason = x.reason;
-    let action = x.action;
-    if x.present {
+    if let Some(q) = slot {
         wire::put_u8(s, at, 1);
-        options::put_reason(s, at + 1, reason);
-        options::put_action(s, at + 2, action);
+        options::put_reason(s, at + 1, q.reason);
+        options::put_action(s, at + 2, q.action);
     }
 }
 
@@ -190,47 +181,35 @@ fn put_slot(s: &mut [u8], at: usize, x: Slot)
 fn put_slots(s: &mut [u8], a: ActiveSet)
     ensures { s.new ≡ sets s.old 7 (le_slots 19 a.reqs) }
 {
-    let reqs = a.reqs;
     wire::put_zeros(s, 7, 57);
-    let mut i: usize = 0;
-    while i < 19 {
-        let x = reqs[i];
-        put_slot(s, 7 + 3 * i, x);
-        i += 1;
+    for i in 0..19 {
+        put_slot(s, 7 + 3 * i, a.reqs[i]);
     }
 }
 
 fn put_estimate(s: &mut [u8], e: EnergyEstimate)
     ensures { s.new ≡ sets s.old 66 (le_estimate e) }
 {
-    let remaining_wh = e.remaining_wh;
-    let margin_wh = e.margin_wh;
     wire::put_f32(s, 66, e.rtl_wh);
     wire::put_f32(s, 70, e.land_wh);
     wire::put_f32(s, 74, e.reserve_wh);
-    options::put_option_f32(s, 78, remaining_wh);
-    options::put_option_f32(s, 83, margin_wh);
+    options::put_option_f32(s, 78, e.remaining_wh);
+    options::put_option_f32(s, 83, e.margin_wh);
     wire::put_flag(s, 88, e.insufficient_for_landing);
 }
 
 fn put_decision(s: &mut [u8], d: Decision)
     ensures { s.new ≡ sets s.old 0 (decision_frame d) }
 {
-    let action = d.action;
-    let reason = d.reason;
-    let requested = d.requested;
-    let active = d.active;
-    let energy = d.energy;
-    let fence_dist_m = d.fence_dist_m;
     wire::put_head(s, 4, 93);
-    options::put_action(s, 4, action);
-    options::put_reason(s, 5, reason);
-    options::put_action(s, 6, requested);
-    put_slots(s, active);
+    options::put_action(s, 4, d.action);
+    options::put_reason(s, 5, d.reason);
+    options::put_action(s, 6, d.requested);
+    put_slots(s, d.active);
     wire::put_flag(s, 64, d.position_valid);
     wire::put_flag(s, 65, d.clock_fault);
-    put_estimate(s, energy);
-    options::put_option_f32(s, 89, fence_dist_m);
+    put_estimate(s, d.energy);
+    options::put_option_f32(s, 89, d.fence_dist_m);
     wire::put_flag(s, 94, d.disarm_eligible);
 }
 

@@ -1,4 +1,5 @@
 -- The fence rules on a frame that is not refused, and the frames whose count is out of range or missing. Assumes nothing.
+use Rattle.std.specs.Prelude.{Err}
 use Prim.Native.Nat.{ℕ, ◌+◌, ◌*◌, ◌<◌, ◌≤◌}
 use mathlib.Core.Path.{◌≡◌}
 use mathlib.Core.Bool.{Bool, true, false}
@@ -9,7 +10,6 @@ use borrow.Author.Tests.{eq-eqb, ne_eqb, le-ltb}
 use Rattle.wire.specs.Fields.{u8_at, u16_at, f32_at}
 use Rattle.wire.specs.Frame.{frame_fault}
 use Rattle.corners.specs.declared.FenceError.{FenceError}
-use Rattle.corners.specs.declared.FenceResult.{FenceResult}
 use Rattle.geometry.specs.Polygon.{polygon_new}
 use Rattle.corners.proofs.Callers.{too_few, too_many}
 use Rattle.frame_fence.specs.FenceFrame.{fence_kind, asks_once_round, corners_sent, fence_fault, read_fence, refused_fence, fence_rules, fence_of}
@@ -27,11 +27,11 @@ module _ (s : List ℕ) (h : fence_fault s ≡ 0) where
   rules = simp (eq-eqb (fence_fault s) 0 h, corners_back s)
 
   -- a count of 17 to 255 with the matching length is refused by the fence rules: 11; so is one of 0 to 2: 10
-  pub many_corners : 16 < u8_at s 4 → (fence_of (read_fence s)).result ≡ FenceResult.Err FenceError.TooManyVertices
+  pub many_corners : 16 < u8_at s 4 → (fence_of (read_fence s)).result ≡ Err FenceError.TooManyVertices
   unfolding fence_rules polygon_new
   many_corners k = rw (rules, too_many (asks_once_round s) (u8_at s 4) (corners_sent s) k)
 
-  pub few_corners : u8_at s 4 < 3 → (fence_of (read_fence s)).result ≡ FenceResult.Err FenceError.TooFewVertices
+  pub few_corners : u8_at s 4 < 3 → (fence_of (read_fence s)).result ≡ Err FenceError.TooFewVertices
   unfolding fence_rules polygon_new
   few_corners k = rw (rules, too_few (asks_once_round s) (u8_at s 4) (corners_sent s) k)
 

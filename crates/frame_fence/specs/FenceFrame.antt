@@ -1,16 +1,17 @@
 -- Kind 2: "fence: corner count (1 byte), min altitude, max altitude, corners north, east", 9 + 8 × count bytes. Document 02, L5: "Fences come as
 -- kind 8 too, with kind 2's body and one more rule". Assumes nothing.
-use Rattle.std.specs.Prelude.{ℕ, zero, suc, ◌+◌, ◌*◌, ◌-◌, min, List, [], ◌∷◌, ◌++◌, Bool, false, cond, eqb, ltb, length, take, replicate, Float}
+use Rattle.std.specs.Prelude.{ℕ, zero, suc, ◌+◌, ◌*◌, ◌-◌, min, List, [], ◌∷◌, ◌++◌, Bool, false, cond, eqb, ltb, length, take, replicate, Float, Result, Ok, Err, ⊤}
 use Rattle.wire.specs.Fields.{u8_at, u16_at, f32_at}
 use Rattle.wire.specs.Cell.{Cell, u8, f32, bytes_of}
 use Rattle.wire.specs.Frame.{frame_fault, frame_head, room_fault, frame_written}
 use Rattle.float32.specs.Binary32.{zero_f}
 use Rattle.types.specs.declared.Point2.{Point2}
 use Rattle.geometry.specs.declared.GeofenceResult.{GeofenceResult}
-use Rattle.corners.specs.declared.FenceResult.{FenceResult}
-use Rattle.corners.specs.Acceptance.{fence_error_number, result_and}
+use Rattle.std.specs.Result.{result_and}
+use Rattle.corners.specs.Acceptance.{fence_error_number}
 use Rattle.geometry.specs.Polygon.{zero_point, polygon_new, geofence_new}
 use Rattle.frame_fence.specs.declared.FenceRead.{FenceRead}
+use Rattle.corners.specs.declared.FenceError.{FenceError}
 
 -- the kind of a fence whose corners have to go round once, and of any other
 abbrev pub fence_kind : Bool → ℕ
@@ -65,9 +66,9 @@ unfoldable pub fence_of : FenceRead → GeofenceResult
 fence_of r = fence_rules r.once_round r.count r.min_alt_m r.max_alt_m (take r.count r.corners)
 
 -- the number of what the rules answer; 0 for none
-abbrev pub fence_number : FenceResult → ℕ
-fence_number FenceResult.Ok = 0
-fence_number (FenceResult.Err e) = fence_error_number e
+abbrev pub fence_number : Result ⊤ FenceError → ℕ
+fence_number (Ok tt) = 0
+fence_number (Err e) = fence_error_number e
 
 -- the body as cells
 abbrev pub point_cells : Point2 → List Cell

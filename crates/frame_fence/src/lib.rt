@@ -7,7 +7,7 @@ ghost use Rattle.wire.specs.Cell.{bytes_of};
 ghost use Rattle.frame_fence.specs.FenceFrame.{fence_kind, point_at, corners_at, corner_array, asks_once_round, refused_fence, read_fence, fence_of, fence_number};
 ghost use Rattle.frame_fence.specs.FenceFrame.{point_cells, corner_cells, fence_frame, write_fault, fence_written};
 
-use corners::FenceResult;
+use corners::FenceError;
 use geometry::{ConvexPolygon, Geofence, GeofenceResult};
 use types::Point2;
 
@@ -133,12 +133,12 @@ pub fn fence_of(r: FenceRead) -> GeofenceResult
     }
 }
 
-pub fn fence_number(r: FenceResult) -> u16
+pub fn fence_number(r: Result<(), FenceError>) -> u16
     ensures { result ≡ fence_number r }
 {
     match r {
-        FenceResult::Ok => 0,
-        FenceResult::Err(e) => e.number(),
+        Ok(()) => 0,
+        Err(e) => e.number(),
     }
 }
 

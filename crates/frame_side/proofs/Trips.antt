@@ -16,8 +16,8 @@ use Rattle.wire.proofs.Head.{head_says, head_bytes}
 use Rattle.options.specs.Options.{le_option_f32}
 use Rattle.options.specs.Enums.{le_action, le_reason}
 use Rattle.frame_decision.specs.declared.DecisionRead.{DecisionRead}
-use Rattle.frame_decision.specs.Slots.{le_slot, le_slots, Canonical}
-use Rattle.frame_decision.specs.DecisionFrame.{refused_with, read_decision, le_estimate, decision_frame, decision_sorts, canonical, Typed}
+use Rattle.frame_decision.specs.Slots.{le_slot, le_slots}
+use Rattle.frame_decision.specs.DecisionFrame.{refused_with, read_decision, le_estimate, decision_frame, decision_sorts, Typed}
 use Rattle.frame_decision.proofs.Trips as kind4
 use Rattle.frame_side.specs.SideFrame.{with_side, without_side, beside, side_frame, read_side}
 use Rattle.frame_side.proofs.Splice.{four}
@@ -38,13 +38,9 @@ reads_as : (d : Decision) (side : ℕ) → read_side (side_frame d side) ≡ bes
 unfolding read_side
 reads_as d side = let p = put_in d side in rw (p.head, p.byte, p.without)
 
--- for each Decision, up to what its absent slots hold, and each side
-pub value_back : (d : Decision) (side : ℕ) → Typed d → read_side (side_frame d side) ≡ record { refused = 0; decision = canonical d; side = side }
+-- for each Decision and each side
+pub value_back : (d : Decision) (side : ℕ) → Typed d → read_side (side_frame d side) ≡ record { refused = 0; decision = d; side = side }
 value_back d side t = reads_as d side ∙ ap (λ (r : DecisionRead). beside r side) (kind4.value_back d t)
-
--- the very Decision, where each absent slot holds None and Nominal, as filing leaves it
-pub value_same : (d : Decision) (side : ℕ) → Typed d → Canonical d.active.reqs → read_side (side_frame d side) ≡ record { refused = 0; decision = d; side = side }
-value_same d side t k = reads_as d side ∙ ap (λ (r : DecisionRead). beside r side) (kind4.value_same d t k)
 
 -- ---- bytes, value, bytes
 

@@ -1,32 +1,32 @@
 -- What a function that has a state learns of its values: each number and float is within its type. Assumes nothing.
+use Rattle.std.specs.Prelude.{Option, Some, None, ℕ, unwrap_or}
 use Prim.Native.Nat.{◌<◌, ◌^◌}
 use mathlib.Core.List.{List}
 use lib.Dec.{lit<}
 use lib.Ieee.{binary32}
 use lib.Ieee.Bits.{of_bits-fits}
 use mir.Val.{Val}
+use denote.Builtin.{u32}
 use denote.Shadow.{shadow}
 use denote.Floats.{passes}
-use Rattle.types.specs.declared.OptionU32.{OptionU32}
-use Rattle.types.specs.declared.OptionPositionSample.{OptionPositionSample}
-use Rattle.types.specs.contracts.OptionU32.{the_field as word_field, the_type as word_type}
-use Rattle.types.specs.contracts.OptionPositionSample.{the_field as position_field_lem, the_type as position_type}
+use Rattle.std.specs.contracts.option.Option.{the_field, the_type}
+use Rattle.types.specs.contracts.PositionSample.{the_row as position_row}
 use Rattle.triggers.specs.declared.TriggerState.{TriggerState}
 use Rattle.triggers.specs.contracts.TriggerState.{the_field as triggers_field, the_type as triggers_type}
 use Rattle.supervisor.specs.declared.Supervisor.{Supervisor}
 use Rattle.supervisor.specs.contracts.Supervisor.{the_field as state_field, the_type as state_type}
 use Rattle.wire.specs.Cell.{Within}
-use Rattle.options.specs.Options.{u32_or_zero}
 use Rattle.options.specs.Position.{position_cells}
 use Rattle.frame_state.specs.StateFrame.{timer_cells, Typed}
+use Rattle.types.specs.declared.PositionSample.{PositionSample}
 
-option_u32 : (o : OptionU32) (v : List Val) → shadow (word_field.row.own_val (word_type.to o) v) → u32_or_zero o < 2 ^ 32
-option_u32 OptionU32.None v h = lit< tt
-option_u32 (OptionU32.Some n) v h = h.1.1.1.1.0.1
+option_u32 : (o : Option ℕ) (v : List Val) → shadow ((the_field u32).row.own_val ((the_type u32).to o) v) → unwrap_or o 0 < 2 ^ 32
+option_u32 None v h = lit< tt
+option_u32 (Some n) v h = h.1.1.1.1.0.1
 
-option_position : (o : OptionPositionSample) (v : List Val) → shadow (position_field_lem.row.own_val (position_type.to o) v) → Within (position_cells o)
-option_position OptionPositionSample.None v h = let z = of_bits-fits binary32 0 in (lit< tt, (z, (z, (z, (z, (z, (z, tt)))))))
-option_position (OptionPositionSample.Some p) v h =
+option_position : (o : Option PositionSample) (v : List Val) → shadow ((the_field position_row).row.own_val ((the_type position_row).to o) v) → Within (position_cells o)
+option_position None v h = let z = of_bits-fits binary32 0 in (lit< tt, (z, (z, (z, (z, (z, (z, tt)))))))
+option_position (Some p) v h =
     let q = h.1.1.1.1.0.1.1 in
     let n = q.1.0.1.1 in
     let w = q.1.1.0.1.1 in

@@ -1,4 +1,5 @@
 -- Both round trips of a state frame, exact: no float of it can be a NaN. Assumes nothing.
+use Rattle.std.specs.Prelude.{Some, None, unwrap_or}
 use Prim.Native.Nat.{ℕ, zero, suc, ◌+◌, ◌*◌, ◌^◌, ◌<◌}
 use mathlib.Core.Path.{◌≡◌, ◌∙◌, ap, refl, sym, subst}
 use mathlib.Core.List.{List, [], ◌∷◌, ◌++◌}
@@ -10,9 +11,7 @@ use lib.Ieee.{Float, nan, inf, fin, is_nan, binary32}
 use lib.Ieee.Bits.{of_bits-fits}
 use borrow.Author.Tests.{eqb-true, eqb-false, ne_eqb, lt-ltb, ltb-true}
 use Rattle.float32.specs.Libm.{is_finite}
-use Rattle.types.specs.declared.OptionU32.{OptionU32}
 use Rattle.types.specs.declared.PositionSample.{PositionSample}
-use Rattle.types.specs.declared.OptionPositionSample.{OptionPositionSample}
 use Rattle.timers.specs.declared.Timer.{Timer}
 use Rattle.triggers.specs.declared.Raised.{Raised}
 use Rattle.supervisor.specs.declared.Supervisor.{Supervisor}
@@ -23,7 +22,7 @@ use Rattle.wire.specs.Frame.{frame_fault, frame_head}
 use Rattle.wire.proofs.Fields.{u32_back, flag_back, flag_valid, u32_bytes, f32_bytes, flag_bytes, u32_lt, f32_fits}
 use Rattle.wire.proofs.Head.{head_says, head_bytes}
 use Rattle.wire.proofs.Whole.{first, second, whole, each}
-use Rattle.options.specs.Options.{zeros, valid_option, u32_or_zero, option_u32_at, le_option_u32}
+use Rattle.options.specs.Options.{zeros, valid_option, option_u32_at, le_option_u32}
 use Rattle.options.specs.Position.{vec3_at, le_vec3, position_cells, option_position_at, le_option_position}
 use Rattle.options.specs.Enums.{action_at, reason_at, le_action, le_reason}
 use Rattle.options.proofs.Options.{option_u32_back, option_u32_valid, option_u32_bytes, option_position_back, option_position_valid, absent_position}
@@ -33,7 +32,7 @@ use Rattle.frame_state.specs.StateFrame.{state_kind, state_length, raised_at, ra
 
 -- ---- value, bytes, value
 
-timer_back : (t : Timer) → u32_or_zero t.since_ms < 2 ^ 32 → timer_at (le_timer t) 0 ≡ t
+timer_back : (t : Timer) → unwrap_or t.since_ms 0 < 2 ^ 32 → timer_at (le_timer t) 0 ≡ t
 unfolding timer_at le_timer
 timer_back t h = λ i. record { since_ms = option_u32_back t.since_ms h i }
 
@@ -267,8 +266,8 @@ module _ (s : List ℕ) (b : Bytes s) where
   sample = record { t_ms = u32_at s 146; pos = vec3_at s 150; vel = vec3_at s 162 }
 
   position_bytes :
-      (f : ℕ) → cond (eqb f 0) (zeros s 146 28) (eqb f 1) ≡ true → finite_stored (cond (eqb f 1) (OptionPositionSample.Some sample) OptionPositionSample.None) ≡ true →
-      le_option_position (cond (eqb f 1) (OptionPositionSample.Some sample) OptionPositionSample.None) ≡ f ∷ bytes_from s 146 28
+      (f : ℕ) → cond (eqb f 0) (zeros s 146 28) (eqb f 1) ≡ true → finite_stored (cond (eqb f 1) (Some sample) None) ≡ true →
+      le_option_position (cond (eqb f 1) (Some sample) None) ≡ f ∷ bytes_from s 146 28
   unfolding le_option_position le_flag
   position_bytes zero v h = absent_position ∙ (λ j. 0 ∷ sym (zero_bytes s 146 28 v) j)
   position_bytes (suc zero) v h =
@@ -340,11 +339,11 @@ module _ (s : List ℕ) (b : Bytes s) where
     state_bytes_lem : state_frame keeps read ≡ s
     state_bytes_lem = cells ∙ both_parts s keeps ∙ whole 0 (186 + cond keeps 8 0) s ((head_says (state_kind keeps) (state_length keeps) s h).1.1 ∙ both_sizes keeps)
 
-  word : (i : ℕ) → u32_or_zero (option_u32_at s i) < 2 ^ 32
+  word : (i : ℕ) → unwrap_or (option_u32_at s i) 0 < 2 ^ 32
   unfolding option_u32_at
   word i = at (flag_at s i)
     where
-      at : (f : Bool) → u32_or_zero (cond f (OptionU32.Some (u32_at s (i + 1))) OptionU32.None) < 2 ^ 32
+      at : (f : Bool) → unwrap_or (cond f (Some (u32_at s (i + 1))) None) 0 < 2 ^ 32
       at true = u32_lt s (i + 1) b
       at false = lit< tt
 
@@ -352,7 +351,7 @@ module _ (s : List ℕ) (b : Bytes s) where
   unfolding option_position_at vec3_at
   stored_within = at (flag_at s 145)
     where
-      at : (f : Bool) → Within (position_cells (cond f (OptionPositionSample.Some (record { t_ms = u32_at s 146; pos = vec3_at s 150; vel = vec3_at s 162 })) OptionPositionSample.None))
+      at : (f : Bool) → Within (position_cells (cond f (Some (record { t_ms = u32_at s 146; pos = vec3_at s 150; vel = vec3_at s 162 })) None))
       at true = (u32_lt s 146 b, (f32_fits s 150, (f32_fits s 154, (f32_fits s 158, (f32_fits s 162, (f32_fits s 166, (f32_fits s 170, tt)))))))
       at false = let z = of_bits-fits binary32 0 in (lit< tt, (z, (z, (z, (z, (z, (z, tt)))))))
 

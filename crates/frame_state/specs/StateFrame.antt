@@ -1,6 +1,6 @@
 -- Kind 5, state: "Supervisor without cfg and fence", "Body fields stand in the Rust's declared order". Document 02, L11, of a flight whose configuration is
 -- of kind 11: "Its state is kind 12: kind 5 with eight further bool bytes". Everywhere here `keeps` is whether it is a kind 12. Assumes nothing.
-use Rattle.std.specs.Prelude.{ℕ, zero, suc, ◌+◌, ◌*◌, ◌^◌, ◌<◌, List, [], ◌∷◌, ◌++◌, Bool, true, cond, ◌&&◌, eqb}
+use Rattle.std.specs.Prelude.{ℕ, zero, suc, ◌+◌, ◌*◌, ◌^◌, ◌<◌, List, [], ◌∷◌, ◌++◌, Bool, true, cond, ◌&&◌, eqb, unwrap_or}
 use Rattle.timers.specs.declared.Timer.{Timer}
 use Rattle.triggers.specs.declared.Raised.{Raised}
 use Rattle.triggers.specs.declared.TriggerState.{TriggerState}
@@ -11,7 +11,7 @@ use Rattle.supervisor.specs.Rules.{finite_stored}
 use Rattle.wire.specs.Fields.{u8_at, flag_at, u32_at, byte_below, le8, le_flag, le32}
 use Rattle.wire.specs.Cell.{Cell, u32, Within}
 use Rattle.wire.specs.Frame.{frame_fault, frame_head, all_true}
-use Rattle.options.specs.Options.{valid_option, u32_or_zero, option_u32_at, le_option_u32}
+use Rattle.options.specs.Options.{valid_option, option_u32_at, le_option_u32}
 use Rattle.options.specs.Position.{option_position_at, le_option_position, position_cells}
 use Rattle.options.specs.Enums.{action_at, reason_at, le_action, le_reason}
 use Rattle.frame_state.specs.declared.StateRead.{StateRead}
@@ -230,38 +230,38 @@ state_frame keeps x =
 -- the numbers of the timers, 0 for an absent one
 abbrev pub timer_cells : TriggerState → List Cell
 timer_cells t =
-    u32 (u32_or_zero t.gcs_clear_timer.since_ms) ∷
-    u32 (u32_or_zero t.rc_clear_timer.since_ms) ∷
-    u32 (u32_or_zero t.gps_deg_set.since_ms) ∷
-    u32 (u32_or_zero t.gps_deg_clear.since_ms) ∷
-    u32 (u32_or_zero t.gps_lost_set.since_ms) ∷
-    u32 (u32_or_zero t.gps_lost_clear.since_ms) ∷
-    u32 (u32_or_zero t.ekf_set.since_ms) ∷
-    u32 (u32_or_zero t.ekf_clear.since_ms) ∷
-    u32 (u32_or_zero t.fence_breach_set.since_ms) ∷
-    u32 (u32_or_zero t.fence_breach_clear.since_ms) ∷
-    u32 (u32_or_zero t.alt_max_set.since_ms) ∷
-    u32 (u32_or_zero t.alt_max_clear.since_ms) ∷
-    u32 (u32_or_zero t.alt_min_set.since_ms) ∷
-    u32 (u32_or_zero t.alt_min_clear.since_ms) ∷
-    u32 (u32_or_zero t.stale_bat_clear.since_ms) ∷
-    u32 (u32_or_zero t.bat_warn_set.since_ms) ∷
-    u32 (u32_or_zero t.bat_warn_clear.since_ms) ∷
-    u32 (u32_or_zero t.bat_low_set.since_ms) ∷
-    u32 (u32_or_zero t.bat_low_clear.since_ms) ∷
-    u32 (u32_or_zero t.bat_crit_set.since_ms) ∷
-    u32 (u32_or_zero t.energy_marg_set.since_ms) ∷
-    u32 (u32_or_zero t.energy_marg_clear.since_ms) ∷
-    u32 (u32_or_zero t.energy_infeas_set.since_ms) ∷
-    u32 (u32_or_zero t.invalid_clear.since_ms) ∷
-    u32 (u32_or_zero t.rc_lost_set.since_ms) ∷
+    u32 (unwrap_or t.gcs_clear_timer.since_ms 0) ∷
+    u32 (unwrap_or t.rc_clear_timer.since_ms 0) ∷
+    u32 (unwrap_or t.gps_deg_set.since_ms 0) ∷
+    u32 (unwrap_or t.gps_deg_clear.since_ms 0) ∷
+    u32 (unwrap_or t.gps_lost_set.since_ms 0) ∷
+    u32 (unwrap_or t.gps_lost_clear.since_ms 0) ∷
+    u32 (unwrap_or t.ekf_set.since_ms 0) ∷
+    u32 (unwrap_or t.ekf_clear.since_ms 0) ∷
+    u32 (unwrap_or t.fence_breach_set.since_ms 0) ∷
+    u32 (unwrap_or t.fence_breach_clear.since_ms 0) ∷
+    u32 (unwrap_or t.alt_max_set.since_ms 0) ∷
+    u32 (unwrap_or t.alt_max_clear.since_ms 0) ∷
+    u32 (unwrap_or t.alt_min_set.since_ms 0) ∷
+    u32 (unwrap_or t.alt_min_clear.since_ms 0) ∷
+    u32 (unwrap_or t.stale_bat_clear.since_ms 0) ∷
+    u32 (unwrap_or t.bat_warn_set.since_ms 0) ∷
+    u32 (unwrap_or t.bat_warn_clear.since_ms 0) ∷
+    u32 (unwrap_or t.bat_low_set.since_ms 0) ∷
+    u32 (unwrap_or t.bat_low_clear.since_ms 0) ∷
+    u32 (unwrap_or t.bat_crit_set.since_ms 0) ∷
+    u32 (unwrap_or t.energy_marg_set.since_ms 0) ∷
+    u32 (unwrap_or t.energy_marg_clear.since_ms 0) ∷
+    u32 (unwrap_or t.energy_infeas_set.since_ms 0) ∷
+    u32 (unwrap_or t.invalid_clear.since_ms 0) ∷
+    u32 (unwrap_or t.rc_lost_set.since_ms 0) ∷
     []
 
 -- what each state in a program has by its type: numbers of 32 bits, and floats of binary32
 pub record Typed (x : Supervisor) : Type 0 where
   pub timers : Within (timer_cells x.triggers)
-  pub recovery : u32_or_zero x.arbiter.recovery_since_ms < 2 ^ 32
-  pub hold : u32_or_zero x.disarm.hold_since_ms < 2 ^ 32
+  pub recovery : unwrap_or x.arbiter.recovery_since_ms 0 < 2 ^ 32
+  pub hold : unwrap_or x.disarm.hold_since_ms 0 < 2 ^ 32
   pub stored : Within (position_cells x.glitch.last_accepted)
-  pub last : u32_or_zero x.last_now < 2 ^ 32
+  pub last : unwrap_or x.last_now 0 < 2 ^ 32
   pub epoch : x.epoch_start < 2 ^ 32

@@ -17,7 +17,7 @@ use disarm::DisarmGate;
 use supervisor::Supervisor;
 use timers::Timer;
 use triggers::{Raised, TriggerState};
-use types::{OptionPositionSample, OptionU32, Vec3};
+use types::{PositionSample, Vec3};
 use validate::GlitchState;
 
 #[derive(Clone, Copy)]
@@ -53,13 +53,9 @@ fn timer_at(s: &[u8], at: usize) -> Timer
 {
     let n = wire::u32_at(s, at + 1);
     if wire::flag_at(s, at) {
-        Timer {
-            since_ms: OptionU32::Some(n),
-        }
+        Timer { since_ms: Some(n) }
     } else {
-        Timer {
-            since_ms: OptionU32::None,
-        }
+        Timer { since_ms: None }
     }
 }
 
@@ -110,7 +106,7 @@ fn arbiter_at(s: &[u8]) -> ArbiterState
     }
 }
 
-fn state_at(s: &[u8], stored: OptionPositionSample, raised: Raised) -> Supervisor
+fn state_at(s: &[u8], stored: Option<PositionSample>, raised: Raised) -> Supervisor
     requires { stored ≡ option_position_at s.now 145 }
     ensures { result ≡ state_at s.now raised }
 {
@@ -166,21 +162,21 @@ fn finite_vec(v: Vec3) -> bool
     float32::is_finite(v.n) & float32::is_finite(v.e) & float32::is_finite(v.d)
 }
 
-fn finite_stored(o: OptionPositionSample) -> bool
+fn finite_stored(o: Option<PositionSample>) -> bool
     ensures { result ≡ finite_stored o }
 {
     match o {
-        OptionPositionSample::Some(p) => {
+        Some(p) => {
             let pos = p.pos;
             let vel = p.vel;
             finite_vec(pos) & finite_vec(vel)
         }
-        OptionPositionSample::None => true,
+        None => true,
     }
 }
 
 // No test is made after one that fails.
-fn state_valid(s: &[u8], stored: OptionPositionSample) -> bool
+fn state_valid(s: &[u8], stored: Option<PositionSample>) -> bool
     requires in_bounds { 186 ≤ length s.now }
     requires stored_value { stored ≡ option_position_at s.now 145 }
     ensures { result ≡ state_valid s.now }
@@ -276,11 +272,11 @@ fn put_timer(s: &mut [u8], at: usize, t: Timer)
 {
     let since_ms = t.since_ms;
     match since_ms {
-        OptionU32::Some(n) => {
+        Some(n) => {
             wire::put_u8(s, at, 1);
             wire::put_u32(s, at + 1, n);
         }
-        OptionU32::None => {}
+        None => {}
     }
 }
 

@@ -1,4 +1,5 @@
 -- Readings that are tested and read at once: what their bytes tell, and what their answer tells of the bytes. Assumes nothing.
+use Rattle.std.specs.Prelude.{Result, Ok, Err}
 use Prim.Native.Nat.{ℕ, ◌+◌, ◌<◌}
 use mathlib.Core.Path.{◌≡◌, ◌∙◌, ap, refl, sym}
 use mathlib.Core.List.{List}
@@ -12,14 +13,8 @@ use Rattle.options.specs.Options.{zeros, valid_option}
 use Rattle.options.proofs.Options.{absent}
 use Rattle.options.proofs.Zeros.{zeros_part, zeros_u8}
 use Rattle.frame_telemetry.specs.Checked.{sample_valid, gps_valid, stamped_bool_valid, landed_valid, battery_valid, status_valid}
+use Rattle.frame_telemetry.specs.declared.Malformed.{Malformed}
 use Rattle.frame_telemetry.specs.TelemetryFrame.{telemetry_tests, telemetry_valid}
-use Rattle.frame_telemetry.specs.declared.PositionField.{PositionField}
-use Rattle.frame_telemetry.specs.declared.GpsField.{GpsField}
-use Rattle.frame_telemetry.specs.declared.StampedF32Field.{StampedF32Field}
-use Rattle.frame_telemetry.specs.declared.StampedBoolField.{StampedBoolField}
-use Rattle.frame_telemetry.specs.declared.StampedLandedField.{StampedLandedField}
-use Rattle.frame_telemetry.specs.declared.HeartbeatField.{HeartbeatField}
-use Rattle.frame_telemetry.specs.declared.BatteryField.{BatteryField}
 
 -- ---- the flag
 pub flag_set : (s : List ℕ) (i : ℕ) → u8_at s i ≡ 1 → flag_at s i ≡ true
@@ -66,36 +61,10 @@ unfolding telemetry_tests telemetry_valid sample_valid gps_valid stamped_bool_va
 by_reading s = simp and_assoc
 
 -- ---- what an answer tells
-pub record Told {A F : Type 0} (valid : A → F) (invalid : F) : Type 0 where
-  pub same : {a b : A} → valid a ≡ valid b → a ≡ b
-  pub apart : {a : A} → valid a ≡ invalid → ⊥
+pub accepted : {A : Type 0} (b : Bool) (a : A) {x : Result A Malformed} {y : A} → x ≡ cond b (Ok a) (Err (record {})) → x ≡ Ok y → (b ≡ true) × (y ≡ a)
+accepted true a e k = (refl, cc)
+accepted false a e k = cc
 
-module _ {A F : Type 0} {valid : A → F} {invalid : F} (t : Told valid invalid) where
-  pub accepted : (b : Bool) (a : A) {x : F} {y : A} → x ≡ cond b (valid a) invalid → x ≡ valid y → (b ≡ true) × (y ≡ a)
-  accepted true a e k = (refl, t.same (sym k ∙ e))
-  accepted false a e k = absurd (t.apart (sym k ∙ e))
-
-  pub declined : (b : Bool) (a : A) {x : F} → x ≡ cond b (valid a) invalid → x ≡ invalid → b ≡ false
-  declined true a e k = absurd (t.apart (sym e ∙ k))
-  declined false a e k = refl
-
-pub position : Told PositionField.Valid PositionField.Invalid
-position = record { same = λ e. cc; apart = λ e. (let z : ◌≡◌ {A = ℕ} 0 1 = cc in omega arith) }
-
-pub gps : Told GpsField.Valid GpsField.Invalid
-gps = record { same = λ e. cc; apart = λ e. (let z : ◌≡◌ {A = ℕ} 0 1 = cc in omega arith) }
-
-pub stamped_f32 : Told StampedF32Field.Valid StampedF32Field.Invalid
-stamped_f32 = record { same = λ e. cc; apart = λ e. (let z : ◌≡◌ {A = ℕ} 0 1 = cc in omega arith) }
-
-pub stamped_bool_lem : Told StampedBoolField.Valid StampedBoolField.Invalid
-stamped_bool_lem = record { same = λ e. cc; apart = λ e. (let z : ◌≡◌ {A = ℕ} 0 1 = cc in omega arith) }
-
-pub stamped_landed_lem : Told StampedLandedField.Valid StampedLandedField.Invalid
-stamped_landed_lem = record { same = λ e. cc; apart = λ e. (let z : ◌≡◌ {A = ℕ} 0 1 = cc in omega arith) }
-
-pub heartbeat : Told HeartbeatField.Valid HeartbeatField.Invalid
-heartbeat = record { same = λ e. cc; apart = λ e. (let z : ◌≡◌ {A = ℕ} 0 1 = cc in omega arith) }
-
-pub battery : Told BatteryField.Valid BatteryField.Invalid
-battery = record { same = λ e. cc; apart = λ e. (let z : ◌≡◌ {A = ℕ} 0 1 = cc in omega arith) }
+pub declined : {A : Type 0} (b : Bool) (a : A) {x : Result A Malformed} {m : Malformed} → x ≡ cond b (Ok a) (Err (record {})) → x ≡ Err m → b ≡ false
+declined true a e k = cc
+declined false a e k = refl

@@ -1,27 +1,22 @@
--- Readings tested and read at once: the reading, or Invalid for "flag or enum byte out of range; absent value not zero". The tests are those of
+-- Readings tested and read at once: the reading, or an error for "flag or enum byte out of range; absent value not zero". The tests are those of
 -- `telemetry_tests`, reading by reading (`by_reading`, proofs/Checked.antt). Assumes nothing.
-use Rattle.std.specs.Prelude.{ℕ, ◌+◌, List, [], ◌∷◌, Bool, cond, ◌&&◌}
+use Rattle.std.specs.Prelude.{ℕ, ◌+◌, List, [], ◌∷◌, Bool, cond, ◌&&◌, Float, Option, Result, Ok, Err}
 use Rattle.wire.specs.Fields.{u32_at, byte_below}
 use Rattle.wire.specs.Frame.{all_true}
 use Rattle.options.specs.Options.{valid_option, option_u8_at, option_u32_at, option_f32_at}
 use Rattle.options.specs.Position.{option_position_at}
 use Rattle.types.specs.declared.GpsSample.{GpsSample}
-use Rattle.types.specs.declared.OptionPositionSample.{OptionPositionSample}
-use Rattle.types.specs.declared.OptionGpsSample.{OptionGpsSample}
+use Rattle.types.specs.declared.LandedState.{LandedState}
+use Rattle.types.specs.declared.Stamped.{Stamped}
 use Rattle.types.specs.declared.BatteryInputs.{BatteryInputs}
 use Rattle.frame_telemetry.specs.declared.TelemetryRead.{TelemetryRead}
-use Rattle.frame_telemetry.specs.declared.PositionField.{PositionField}
-use Rattle.frame_telemetry.specs.declared.GpsField.{GpsField}
-use Rattle.frame_telemetry.specs.declared.StampedF32Field.{StampedF32Field}
-use Rattle.frame_telemetry.specs.declared.StampedBoolField.{StampedBoolField}
-use Rattle.frame_telemetry.specs.declared.StampedLandedField.{StampedLandedField}
-use Rattle.frame_telemetry.specs.declared.HeartbeatField.{HeartbeatField}
-use Rattle.frame_telemetry.specs.declared.BatteryField.{BatteryField}
+use Rattle.frame_telemetry.specs.declared.Malformed.{Malformed}
 use Rattle.frame_telemetry.specs.Readings.{fix_at, option_gps_at, stamped_f32_at, stamped_bool_at, stamped_landed_at}
+use Rattle.types.specs.declared.PositionSample.{PositionSample}
 
 -- Option<PositionSample> at byte 8
-unfoldable pub position_field : List ℕ → PositionField
-position_field s = cond (valid_option s 8 28) (PositionField.Valid (option_position_at s 8)) PositionField.Invalid
+unfoldable pub position_field : List ℕ → Result (Option PositionSample) Malformed
+position_field s = cond (valid_option s 8 28) (Ok (option_position_at s 8)) (Err (record {}))
 
 -- Option<GpsSample> at byte 37; where it is present, its fix and the two values inside it that may be absent
 unfoldable pub sample_valid : List ℕ → Bool
@@ -33,27 +28,27 @@ sample_at s = record { t_ms = u32_at s 38; fix = fix_at s 42; sats = option_u8_a
 unfoldable pub gps_valid : List ℕ → Bool
 gps_valid s = valid_option s 37 12 && sample_valid s
 
-unfoldable pub gps_field : List ℕ → GpsField
-gps_field s = cond (gps_valid s) (GpsField.Valid (option_gps_at s 37)) GpsField.Invalid
+unfoldable pub gps_field : List ℕ → Result (Option GpsSample) Malformed
+gps_field s = cond (gps_valid s) (Ok (option_gps_at s 37)) (Err (record {}))
 
 -- Option<Stamped<f32>>, Option<Stamped<bool>>, Option<Stamped<LandedState>>, and the heartbeat's Option<u32>
-unfoldable pub stamped_f32_field : List ℕ → ℕ → StampedF32Field
-stamped_f32_field s i = cond (valid_option s i 8) (StampedF32Field.Valid (stamped_f32_at s i)) StampedF32Field.Invalid
+unfoldable pub stamped_f32_field : List ℕ → ℕ → Result (Option (Stamped Float)) Malformed
+stamped_f32_field s i = cond (valid_option s i 8) (Ok (stamped_f32_at s i)) (Err (record {}))
 
 unfoldable pub stamped_bool_valid : List ℕ → ℕ → Bool
 stamped_bool_valid s i = valid_option s i 5 && byte_below s (i + 5) 2
 
-unfoldable pub stamped_bool_field : List ℕ → ℕ → StampedBoolField
-stamped_bool_field s i = cond (stamped_bool_valid s i) (StampedBoolField.Valid (stamped_bool_at s i)) StampedBoolField.Invalid
+unfoldable pub stamped_bool_field : List ℕ → ℕ → Result (Option (Stamped Bool)) Malformed
+stamped_bool_field s i = cond (stamped_bool_valid s i) (Ok (stamped_bool_at s i)) (Err (record {}))
 
 unfoldable pub landed_valid : List ℕ → Bool
 landed_valid s = valid_option s 88 5 && byte_below s 93 5
 
-unfoldable pub landed_field : List ℕ → StampedLandedField
-landed_field s = cond (landed_valid s) (StampedLandedField.Valid (stamped_landed_at s 88)) StampedLandedField.Invalid
+unfoldable pub landed_field : List ℕ → Result (Option (Stamped LandedState)) Malformed
+landed_field s = cond (landed_valid s) (Ok (stamped_landed_at s 88)) (Err (record {}))
 
-unfoldable pub heartbeat_field : List ℕ → HeartbeatField
-heartbeat_field s = cond (valid_option s 77 4) (HeartbeatField.Valid (option_u32_at s 77)) HeartbeatField.Invalid
+unfoldable pub heartbeat_field : List ℕ → Result (Option ℕ) Malformed
+heartbeat_field s = cond (valid_option s 77 4) (Ok (option_u32_at s 77)) (Err (record {}))
 
 -- the three readings of the battery
 unfoldable pub battery_valid : List ℕ → Bool
@@ -62,14 +57,14 @@ battery_valid s = valid_option s 50 8 && (valid_option s 59 8 && valid_option s 
 unfoldable pub battery_at : List ℕ → BatteryInputs
 battery_at s = record { voltage_v = stamped_f32_at s 50; percent = stamped_f32_at s 59; remaining_wh = stamped_f32_at s 68 }
 
-unfoldable pub battery_field : List ℕ → BatteryField
-battery_field s = cond (battery_valid s) (BatteryField.Valid (battery_at s)) BatteryField.Invalid
+unfoldable pub battery_field : List ℕ → Result BatteryInputs Malformed
+battery_field s = cond (battery_valid s) (Ok (battery_at s)) (Err (record {}))
 
 -- the readings from the heartbeat on, with those before them given
 unfoldable pub status_valid : List ℕ → Bool
 status_valid s = valid_option s 77 4 && (stamped_bool_valid s 82 && (landed_valid s && (stamped_bool_valid s 94 && stamped_bool_valid s 100)))
 
-unfoldable pub with_status : List ℕ → OptionPositionSample → OptionGpsSample → BatteryInputs → TelemetryRead
+unfoldable pub with_status : List ℕ → Option PositionSample → Option GpsSample → BatteryInputs → TelemetryRead
 with_status s p g b =
     cond (status_valid s)
     (TelemetryRead.Frame

@@ -1,7 +1,7 @@
 // Kind 3: Telemetry in its frame, read and written.
 #![tactic(auto)]
 
-ghost use Rattle.std.specs.Prelude.{◌≡◌, ◌+◌, ◌<◌, ◌≤◌, length};
+ghost use Rattle.std.specs.Prelude.{◌≡◌, ◌+◌, ◌<◌, ◌≤◌, length, Some};
 ghost use Rattle.std.proofs.lemmas.List.Edits.{sets};
 ghost use Rattle.wire.specs.Fields.{u32_at, f32_at};
 ghost use Rattle.wire.specs.Cell.{bytes_of};
@@ -9,19 +9,12 @@ ghost use Rattle.wire.specs.Frame.{room_fault, frame_written};
 ghost use Rattle.wire.specs.Laid.{laid, Blank};
 ghost use Rattle.options.specs.Options.{zeros, le_option_u8, le_option_f32};
 ghost use Rattle.options.specs.Position.{vec3_at, position_cells};
-ghost use Rattle.types.specs.declared.OptionPositionSample.{OptionPositionSample};
-ghost use Rattle.types.specs.declared.OptionGpsSample.{OptionGpsSample};
-ghost use Rattle.frame_telemetry.specs.Readings.{fix_at, landed_at, gps_cells};
-ghost use Rattle.frame_telemetry.specs.Readings.{is_some_stamped_f32, stamp_f32, value_f32, stamped_f32_cells};
-ghost use Rattle.frame_telemetry.specs.Readings.{is_some_stamped_bool, stamp_bool, value_bool, stamped_bool_cells};
-ghost use Rattle.frame_telemetry.specs.Readings.{is_some_stamped_landed, stamp_landed, value_landed, stamped_landed_cells};
+ghost use Rattle.frame_telemetry.specs.Readings.{fix_at, landed_at, gps_cells, stamped_f32_cells, stamped_bool_cells, stamped_landed_cells};
 ghost use Rattle.frame_telemetry.specs.Checked.{position_field, sample_valid, sample_at, gps_field, stamped_f32_field, stamped_bool_field, landed_field, heartbeat_field, battery_field, with_status};
 ghost use Rattle.frame_telemetry.specs.TelemetryFrame.{read_body, read_telemetry, battery_cells, status_cells, telemetry_frame};
 
 use types::{
-    BatteryInputs, GpsFix, GpsSample, LandedState, OptionF32, OptionGpsFix, OptionGpsSample,
-    OptionLandedState, OptionPositionSample, OptionStampedBool, OptionStampedF32,
-    OptionStampedLandedState, OptionU8, OptionU32, PositionSample, Telemetry, Vec3,
+    BatteryInputs, GpsFix, GpsSample, LandedState, PositionSample, Stamped, Telemetry, Vec3,
 };
 
 #[derive(Clone, Copy)]
@@ -34,22 +27,14 @@ pub enum TelemetryRead {
 fn fix_at(s: &[u8], at: usize) -> GpsFix
     ensures { result ≡ fix_at s.now at }
 {
-    let o = GpsFix::from_number(wire::u8_at(s, at));
-    match o {
-        OptionGpsFix::Some(f) => f,
-        OptionGpsFix::None => GpsFix::None,
-    }
+    GpsFix::try_from(wire::u8_at(s, at)).unwrap_or(GpsFix::None)
 }
 
 // A byte that is no state's, which is refused before, is read as Undefined.
 fn landed_at(s: &[u8], at: usize) -> LandedState
     ensures { result ≡ landed_at s.now at }
 {
-    let o = LandedState::from_number(wire::u8_at(s, at));
-    match o {
-        OptionLandedState::Some(l) => l,
-        OptionLandedState::None => LandedState::Undefined,
-    }
+    LandedState::try_from(wire::u8_at(s, at)).unwrap_or(LandedState::Undefined)
 }
 
 // The number of four bytes that are all within the slice.
@@ -115,50 +100,12 @@ fn zero28(s: &[u8], at: usize) -> bool
     zero12(s, at) & zero8(s, at + 12) & zero8(s, at + 20)
 }
 
-// A reading is tested and read at once: a frame is refused at the first that is not valid, and no flag is looked at twice.
+// A reading with a flag or enum byte out of range, or an absent value whose bytes are not 0.
 #[derive(Clone, Copy)]
-enum PositionField {
-    Valid(OptionPositionSample),
-    Invalid,
-}
+struct Malformed;
 
-#[derive(Clone, Copy)]
-enum GpsField {
-    Valid(OptionGpsSample),
-    Invalid,
-}
-
-#[derive(Clone, Copy)]
-enum StampedF32Field {
-    Valid(OptionStampedF32),
-    Invalid,
-}
-
-#[derive(Clone, Copy)]
-enum StampedBoolField {
-    Valid(OptionStampedBool),
-    Invalid,
-}
-
-#[derive(Clone, Copy)]
-enum StampedLandedField {
-    Valid(OptionStampedLandedState),
-    Invalid,
-}
-
-#[derive(Clone, Copy)]
-enum HeartbeatField {
-    Valid(OptionU32),
-    Invalid,
-}
-
-#[derive(Clone, Copy)]
-enum BatteryField {
-    Valid(BatteryInputs),
-    Invalid,
-}
-
-fn position_field(s: &[u8]) -> PositionField
+// Each reading is tested and read at once: a frame is refused at the first that is malformed, and no flag is looked at twice.
+fn position_field(s: &[u8]) -> Result<Option<PositionSample>, Malformed>
     requires { length s.now ≡ 106 }
     ensures { result ≡ position_field s.now }
 {
@@ -167,13 +114,11 @@ fn position_field(s: &[u8]) -> PositionField
         let t_ms = word(s, 9);
         let pos = vec3(s, 13);
         let vel = vec3(s, 25);
-        PositionField::Valid(OptionPositionSample::Some(PositionSample { t_ms, pos, vel }))
+        Ok(Some(PositionSample { t_ms, pos, vel }))
+    } else if (f == 0) & zero28(s, 9) {
+        Ok(None)
     } else {
-        if (f == 0) & zero28(s, 9) {
-            PositionField::Valid(OptionPositionSample::None)
-        } else {
-            PositionField::Invalid
-        }
+        Err(Malformed)
     }
 }
 
@@ -198,27 +143,25 @@ fn sample_at(s: &[u8]) -> GpsSample
     }
 }
 
-fn gps_field(s: &[u8]) -> GpsField
+fn gps_field(s: &[u8]) -> Result<Option<GpsSample>, Malformed>
     requires { length s.now ≡ 106 }
     ensures { result ≡ gps_field s.now }
 {
     let f = s[37];
     if f == 1 {
         if sample_valid(s) {
-            GpsField::Valid(OptionGpsSample::Some(sample_at(s)))
+            Ok(Some(sample_at(s)))
         } else {
-            GpsField::Invalid
+            Err(Malformed)
         }
+    } else if (f == 0) & zero12(s, 38) {
+        Ok(None)
     } else {
-        if (f == 0) & zero12(s, 38) {
-            GpsField::Valid(OptionGpsSample::None)
-        } else {
-            GpsField::Invalid
-        }
+        Err(Malformed)
     }
 }
 
-fn stamped_f32_field(s: &[u8], at: usize) -> StampedF32Field
+fn stamped_f32_field(s: &[u8], at: usize) -> Result<Option<Stamped<f32>>, Malformed>
     requires { at + 9 ≤ length s.now }
     ensures { result ≡ stamped_f32_field s.now at }
 {
@@ -226,17 +169,15 @@ fn stamped_f32_field(s: &[u8], at: usize) -> StampedF32Field
     if f == 1 {
         let t_ms = word(s, at + 1);
         let value = real(s, at + 5);
-        StampedF32Field::Valid(OptionStampedF32::Some { t_ms, value })
+        Ok(Some(Stamped { t_ms, value }))
+    } else if (f == 0) & zero8(s, at + 1) {
+        Ok(None)
     } else {
-        if (f == 0) & zero8(s, at + 1) {
-            StampedF32Field::Valid(OptionStampedF32::None)
-        } else {
-            StampedF32Field::Invalid
-        }
+        Err(Malformed)
     }
 }
 
-fn stamped_bool_field(s: &[u8], at: usize) -> StampedBoolField
+fn stamped_bool_field(s: &[u8], at: usize) -> Result<Option<Stamped<bool>>, Malformed>
     requires { at + 6 ≤ length s.now }
     ensures { result ≡ stamped_bool_field s.now at }
 {
@@ -245,23 +186,21 @@ fn stamped_bool_field(s: &[u8], at: usize) -> StampedBoolField
         let b = s[at + 5];
         if b < 2 {
             let t_ms = word(s, at + 1);
-            StampedBoolField::Valid(OptionStampedBool::Some {
+            Ok(Some(Stamped {
                 t_ms,
                 value: b == 1,
-            })
+            }))
         } else {
-            StampedBoolField::Invalid
+            Err(Malformed)
         }
+    } else if (f == 0) & zero5(s, at + 1) {
+        Ok(None)
     } else {
-        if (f == 0) & zero5(s, at + 1) {
-            StampedBoolField::Valid(OptionStampedBool::None)
-        } else {
-            StampedBoolField::Invalid
-        }
+        Err(Malformed)
     }
 }
 
-fn landed_field(s: &[u8]) -> StampedLandedField
+fn landed_field(s: &[u8]) -> Result<Option<Stamped<LandedState>>, Malformed>
     requires { length s.now ≡ 106 }
     ensures { result ≡ landed_field s.now }
 {
@@ -270,86 +209,65 @@ fn landed_field(s: &[u8]) -> StampedLandedField
         if s[93] < 5 {
             let t_ms = word(s, 89);
             let value = landed_at(s, 93);
-            StampedLandedField::Valid(OptionStampedLandedState::Some { t_ms, value })
+            Ok(Some(Stamped { t_ms, value }))
         } else {
-            StampedLandedField::Invalid
+            Err(Malformed)
         }
+    } else if (f == 0) & zero5(s, 89) {
+        Ok(None)
     } else {
-        if (f == 0) & zero5(s, 89) {
-            StampedLandedField::Valid(OptionStampedLandedState::None)
-        } else {
-            StampedLandedField::Invalid
-        }
+        Err(Malformed)
     }
 }
 
-fn heartbeat_field(s: &[u8]) -> HeartbeatField
+fn heartbeat_field(s: &[u8]) -> Result<Option<u32>, Malformed>
     requires { length s.now ≡ 106 }
     ensures { result ≡ heartbeat_field s.now }
 {
     let f = s[77];
     if f == 1 {
-        HeartbeatField::Valid(OptionU32::Some(word(s, 78)))
+        Ok(Some(word(s, 78)))
+    } else if (f == 0) & zero4(s, 78) {
+        Ok(None)
     } else {
-        if (f == 0) & zero4(s, 78) {
-            HeartbeatField::Valid(OptionU32::None)
-        } else {
-            HeartbeatField::Invalid
-        }
+        Err(Malformed)
     }
 }
 
-fn battery_field(s: &[u8]) -> BatteryField
+fn battery_field(s: &[u8]) -> Result<BatteryInputs, Malformed>
     requires { length s.now ≡ 106 }
     ensures { result ≡ battery_field s.now }
 {
-    let x = stamped_f32_field(s, 50);
-    let StampedF32Field::Valid(voltage_v) = x else {
-        return BatteryField::Invalid;
-    };
-    let y = stamped_f32_field(s, 59);
-    let StampedF32Field::Valid(percent) = y else {
-        return BatteryField::Invalid;
-    };
-    let z = stamped_f32_field(s, 68);
-    let StampedF32Field::Valid(remaining_wh) = z else {
-        return BatteryField::Invalid;
-    };
-    BatteryField::Valid(BatteryInputs {
-        voltage_v,
-        percent,
-        remaining_wh,
+    Ok(BatteryInputs {
+        voltage_v: stamped_f32_field(s, 50)?,
+        percent: stamped_f32_field(s, 59)?,
+        remaining_wh: stamped_f32_field(s, 68)?,
     })
 }
 
 // The Telemetry with the readings from the heartbeat on, or refusal 4.
 fn with_status(
     s: &[u8],
-    position: OptionPositionSample,
-    gps: OptionGpsSample,
+    position: Option<PositionSample>,
+    gps: Option<GpsSample>,
     battery: BatteryInputs,
 ) -> TelemetryRead
     requires { length s.now ≡ 106 }
     ensures { result ≡ with_status s.now position gps battery }
 {
-    let h = heartbeat_field(s);
-    let HeartbeatField::Valid(gcs_heartbeat_ms) = h else {
+    let Ok(gcs_heartbeat_ms) = heartbeat_field(s) else {
         return TelemetryRead::Refused(4);
     };
-    let a = stamped_bool_field(s, 82);
-    let StampedBoolField::Valid(armed) = a else {
+    let Ok(armed) = stamped_bool_field(s, 82) else {
         return TelemetryRead::Refused(4);
     };
-    let l = landed_field(s);
-    let StampedLandedField::Valid(landed) = l else {
+    let Ok(landed) = landed_field(s) else {
         return TelemetryRead::Refused(4);
     };
-    let r = stamped_bool_field(s, 94);
-    let StampedBoolField::Valid(rc_ok) = r else {
+    let Ok(rc_ok) = stamped_bool_field(s, 94) else {
         return TelemetryRead::Refused(4);
     };
-    let e = stamped_bool_field(s, 100);
-    let StampedBoolField::Valid(ekf_ok) = e else {
+    let Ok(ekf_ok) = stamped_bool_field(s, 100) else {
         return TelemetryRead::Refused(4);
     };
     TelemetryRead::Frame(Telemetry {
@@ -370,16 +288,13 @@ fn telemetry_at(s: &[u8]) -> TelemetryRead
     requires { length s.now ≡ 106 }
     ensures { result ≡ read_body s.now }
 {
-    let p = position_field(s);
-    let PositionField::Valid(position) = p else {
+    let Ok(position) = position_field(s) else {
         return TelemetryRead::Refused(4);
     };
-    let g = gps_field(s);
-    let GpsField::Valid(gps) = g else {
+    let Ok(gps) = gps_field(s) else {
         return TelemetryRead::Refused(4);
     };
-    let b = battery_field(s);
-    let BatteryField::Valid(battery) = b else {
+    let Ok(battery) = battery_field(s) else {
         return TelemetryRead::Refused(4);
     };
     with_status(s, position, gps, battery)
@@ -398,224 +313,130 @@ pub fn read_telemetry(s: &[u8]) -> TelemetryRead
 
 // Over bytes of 0, as an absent reading leaves them, only what is present is written.
 fn put_position(s: &mut [u8], p: PositionSample)
-    ensures { s.new ≡ sets s.old 8 (bytes_of (position_cells (OptionPositionSample.Some p))) }
+    ensures { s.new ≡ sets s.old 8 (bytes_of (position_cells (Some p))) }
 {
-    let pos = p.pos;
-    let vel = p.vel;
     wire::put_u8(s, 8, 1);
     wire::put_u32(s, 9, p.t_ms);
-    wire::put_f32(s, 13, pos.n);
-    wire::put_f32(s, 17, pos.e);
-    wire::put_f32(s, 21, pos.d);
-    wire::put_f32(s, 25, vel.n);
-    wire::put_f32(s, 29, vel.e);
-    wire::put_f32(s, 33, vel.d);
+    wire::put_f32(s, 13, p.pos.n);
+    wire::put_f32(s, 17, p.pos.e);
+    wire::put_f32(s, 21, p.pos.d);
+    wire::put_f32(s, 25, p.vel.n);
+    wire::put_f32(s, 29, p.vel.e);
+    wire::put_f32(s, 33, p.vel.d);
 }
 
-fn put_option_position(s: &mut [u8], o: OptionPositionSample)
+fn put_option_position(s: &mut [u8], o: Option<PositionSample>)
     ensures { s.new ≡ sets s.old 8 (bytes_of (position_cells o)) }
 {
     wire::put_zeros(s, 8, 29);
-    match o {
-        OptionPositionSample::Some(p) => put_position(s, p),
-        OptionPositionSample::None => {}
+    if let Some(p) = o {
+        put_position(s, p);
     }
 }
 
-fn put_sats(s: &mut [u8], o: OptionU8)
+fn put_sats(s: &mut [u8], o: Option<u8>)
     ensures { s.new ≡ laid s.old 43 (le_option_u8 o) }
 {
-    match o {
-        OptionU8::Some(n) => {
-            wire::put_u8(s, 43, 1);
-            wire::put_u8(s, 44, n);
-        }
-        OptionU8::None => {}
+    if let Some(n) = o {
+        wire::put_u8(s, 43, 1);
+        wire::put_u8(s, 44, n);
     }
 }
 
-fn put_hdop(s: &mut [u8], o: OptionF32)
+fn put_hdop(s: &mut [u8], o: Option<f32>)
     ensures { s.new ≡ laid s.old 45 (le_option_f32 o) }
 {
-    match o {
-        OptionF32::Some(x) => {
-            wire::put_u8(s, 45, 1);
-            wire::put_f32(s, 46, x);
-        }
-        OptionF32::None => {}
+    if let Some(x) = o {
+        wire::put_u8(s, 45, 1);
+        wire::put_f32(s, 46, x);
     }
 }
 
 fn put_sample(s: &mut [u8], g: GpsSample)
     requires { Blank s.old 37 13 }
-    ensures { s.new ≡ sets s.old 37 (bytes_of (gps_cells (OptionGpsSample.Some g))) }
+    ensures { s.new ≡ sets s.old 37 (bytes_of (gps_cells (Some g))) }
 {
-    let fix = g.fix;
-    let sats = g.sats;
-    let hdop = g.hdop;
     wire::put_u8(s, 37, 1);
     wire::put_u32(s, 38, g.t_ms);
-    wire::put_u8(s, 42, fix.number());
-    put_sats(s, sats);
-    put_hdop(s, hdop);
+    wire::put_u8(s, 42, u8::from(g.fix));
+    put_sats(s, g.sats);
+    put_hdop(s, g.hdop);
 }
 
-fn put_gps(s: &mut [u8], o: OptionGpsSample)
+fn put_gps(s: &mut [u8], o: Option<GpsSample>)
     ensures { s.new ≡ sets s.old 37 (bytes_of (gps_cells o)) }
 {
     wire::put_zeros(s, 37, 13);
-    match o {
-        OptionGpsSample::Some(g) => put_sample(s, g),
-        OptionGpsSample::None => {}
+    if let Some(g) = o {
+        put_sample(s, g);
     }
 }
 
-fn is_some_stamped_f32(o: OptionStampedF32) -> bool
-    ensures { result ≡ is_some_stamped_f32 o }
-{
-    match o {
-        OptionStampedF32::Some { t_ms: _, value: _ } => true,
-        OptionStampedF32::None => false,
-    }
-}
-
-fn stamp_f32(o: OptionStampedF32) -> u32
-    ensures { result ≡ stamp_f32 o }
-{
-    match o {
-        OptionStampedF32::Some { t_ms, value: _ } => t_ms,
-        OptionStampedF32::None => 0,
-    }
-}
-
-fn value_f32(o: OptionStampedF32) -> f32
-    ensures { result ≡ value_f32 o }
-{
-    match o {
-        OptionStampedF32::Some { t_ms: _, value } => value,
-        OptionStampedF32::None => 0.0,
-    }
-}
-
-fn put_stamped_f32(s: &mut [u8], at: usize, o: OptionStampedF32)
+fn put_stamped_f32(s: &mut [u8], at: usize, o: Option<Stamped<f32>>)
     requires { at < 65536 }
     ensures { s.new ≡ sets s.old at (bytes_of (stamped_f32_cells o)) }
 {
-    wire::put_flag(s, at, is_some_stamped_f32(o));
-    wire::put_u32(s, at + 1, stamp_f32(o));
-    wire::put_f32(s, at + 5, value_f32(o));
+    let r = o.unwrap_or(Stamped {
+        t_ms: 0,
+        value: 0.0,
+    });
+    wire::put_flag(s, at, o.is_some());
+    wire::put_u32(s, at + 1, r.t_ms);
+    wire::put_f32(s, at + 5, r.value);
 }
 
-fn is_some_stamped_bool(o: OptionStampedBool) -> bool
-    ensures { result ≡ is_some_stamped_bool o }
-{
-    match o {
-        OptionStampedBool::Some { t_ms: _, value: _ } => true,
-        OptionStampedBool::None => false,
-    }
-}
-
-fn stamp_bool(o: OptionStampedBool) -> u32
-    ensures { result ≡ stamp_bool o }
-{
-    match o {
-        OptionStampedBool::Some { t_ms, value: _ } => t_ms,
-        OptionStampedBool::None => 0,
-    }
-}
-
-fn value_bool(o: OptionStampedBool) -> bool
-    ensures { result ≡ value_bool o }
-{
-    match o {
-        OptionStampedBool::Some { t_ms: _, value } => value,
-        OptionStampedBool::None => false,
-    }
-}
-
-fn put_stamped_bool(s: &mut [u8], at: usize, o: OptionStampedBool)
+fn put_stamped_bool(s: &mut [u8], at: usize, o: Option<Stamped<bool>>)
     requires { at < 65536 }
     ensures { s.new ≡ sets s.old at (bytes_of (stamped_bool_cells o)) }
 {
-    wire::put_flag(s, at, is_some_stamped_bool(o));
-    wire::put_u32(s, at + 1, stamp_bool(o));
-    wire::put_flag(s, at + 5, value_bool(o));
+    let r = o.unwrap_or(Stamped {
+        t_ms: 0,
+        value: false,
+    });
+    wire::put_flag(s, at, o.is_some());
+    wire::put_u32(s, at + 1, r.t_ms);
+    wire::put_flag(s, at + 5, r.value);
 }
 
-fn is_some_stamped_landed(o: OptionStampedLandedState) -> bool
-    ensures { result ≡ is_some_stamped_landed o }
-{
-    match o {
-        OptionStampedLandedState::Some { t_ms: _, value: _ } => true,
-        OptionStampedLandedState::None => false,
-    }
-}
-
-fn stamp_landed(o: OptionStampedLandedState) -> u32
-    ensures { result ≡ stamp_landed o }
-{
-    match o {
-        OptionStampedLandedState::Some { t_ms, value: _ } => t_ms,
-        OptionStampedLandedState::None => 0,
-    }
-}
-
-fn value_landed(o: OptionStampedLandedState) -> LandedState
-    ensures { result ≡ value_landed o }
-{
-    match o {
-        OptionStampedLandedState::Some { t_ms: _, value } => value,
-        OptionStampedLandedState::None => LandedState::Undefined,
-    }
-}
-
-fn put_stamped_landed(s: &mut [u8], at: usize, o: OptionStampedLandedState)
+fn put_stamped_landed(s: &mut [u8], at: usize, o: Option<Stamped<LandedState>>)
     requires { at < 65536 }
     ensures { s.new ≡ sets s.old at (bytes_of (stamped_landed_cells o)) }
 {
-    let value = value_landed(o);
-    wire::put_flag(s, at, is_some_stamped_landed(o));
-    wire::put_u32(s, at + 1, stamp_landed(o));
-    wire::put_u8(s, at + 5, value.number());
+    let r = o.unwrap_or(Stamped {
+        t_ms: 0,
+        value: LandedState::Undefined,
+    });
+    wire::put_flag(s, at, o.is_some());
+    wire::put_u32(s, at + 1, r.t_ms);
+    wire::put_u8(s, at + 5, u8::from(r.value));
 }
 
 fn put_battery(s: &mut [u8], b: BatteryInputs)
     ensures { s.new ≡ sets s.old 50 (bytes_of (battery_cells b)) }
 {
-    let voltage_v = b.voltage_v;
-    let percent = b.percent;
-    let remaining_wh = b.remaining_wh;
-    put_stamped_f32(s, 50, voltage_v);
-    put_stamped_f32(s, 59, percent);
-    put_stamped_f32(s, 68, remaining_wh);
+    put_stamped_f32(s, 50, b.voltage_v);
+    put_stamped_f32(s, 59, b.percent);
+    put_stamped_f32(s, 68, b.remaining_wh);
 }
 
 fn put_status(s: &mut [u8], t: Telemetry)
     ensures { s.new ≡ sets s.old 77 (bytes_of (status_cells t)) }
 {
-    let gcs_heartbeat_ms = t.gcs_heartbeat_ms;
-    let armed = t.armed;
-    let landed = t.landed;
-    let rc_ok = t.rc_ok;
-    let ekf_ok = t.ekf_ok;
-    options::put_option_u32(s, 77, gcs_heartbeat_ms);
-    put_stamped_bool(s, 82, armed);
-    put_stamped_landed(s, 88, landed);
-    put_stamped_bool(s, 94, rc_ok);
-    put_stamped_bool(s, 100, ekf_ok);
+    options::put_option_u32(s, 77, t.gcs_heartbeat_ms);
+    put_stamped_bool(s, 82, t.armed);
+    put_stamped_landed(s, 88, t.landed);
+    put_stamped_bool(s, 94, t.rc_ok);
+    put_stamped_bool(s, 100, t.ekf_ok);
 }
 
 fn put_telemetry(s: &mut [u8], t: Telemetry)
     ensures { s.new ≡ sets s.old 0 (telemetry_frame t) }
 {
-    let position = t.position;
-    let gps = t.gps;
-    let battery = t.battery;
     wire::put_head(s, 3, 104);
     wire::put_u32(s, 4, t.now_ms);
-    put_option_position(s, position);
-    put_gps(s, gps);
-    put_battery(s, battery);
+    put_option_position(s, t.position);
+    put_gps(s, t.gps);
+    put_battery(s, t.battery);
     put_status(s, t);
 }
 

@@ -1,5 +1,6 @@
 -- Both round trips of a Telemetry frame. A NaN is one value here, so value, bytes, value says nothing of its bits; bytes, value, bytes gives the same bytes
 -- but for those of a NaN. Assumes nothing.
+use Rattle.std.specs.Prelude.{unwrap_or}
 use Prim.Native.Nat.{ℕ, ◌+◌}
 use mathlib.Core.Path.{◌≡◌, ◌∙◌, ap, refl, subst}
 use mathlib.Core.List.{List, [], ◌∷◌, ◌++◌}
@@ -7,6 +8,7 @@ use mathlib.Core.Bool.{Bool, true, false, cond, ◌&&◌}
 use native.Mathlib.Omega.{arith}
 use lib.Dec.{eqb}
 use borrow.Author.Tests.{eqb-true}
+use Rattle.types.specs.declared.LandedState.{LandedState}
 use Rattle.types.specs.declared.Telemetry.{Telemetry}
 use Rattle.wire.specs.Fields.{Bytes, u8_at, number_at, u16_at, flag_at, u32_at, f32_at, byte_below, le8, le_flag, le_bytes, le16, le32, le_f32, bytes_from}
 use Rattle.wire.specs.Cell.{Cell, u8, flag, u16, u32, f32, Within, U16, sorts_of, NoNan, nan_rewritten, widths}
@@ -19,7 +21,7 @@ use Rattle.options.specs.Options.{zeros, valid_option, option_u8_at, option_u32_
 use Rattle.options.specs.Position.{vec3_at, le_vec3, option_position_at, le_option_position, position_cells}
 use Rattle.options.proofs.Options.{option_u32_back, option_position_back, option_u8_valid, option_u32_valid, option_f32_valid, option_position_valid, option_u32_bytes, option_position_bytes}
 use Rattle.frame_telemetry.specs.declared.TelemetryRead.TheVariants.{Frame, Refused}
-use Rattle.frame_telemetry.specs.Readings.{fix_at, landed_at, option_gps_at, gps_or_zero, gps_cells, stamped_f32_at, stamped_bool_at, value_bool, stamped_landed_at, value_landed}
+use Rattle.frame_telemetry.specs.Readings.{fix_at, landed_at, option_gps_at, zero_gps, gps_cells, stamped_f32_at, stamped_bool_at, stamped_landed_at}
 use Rattle.frame_telemetry.specs.TelemetryFrame.{telemetry_at, telemetry_tests, telemetry_valid, read_telemetry, battery_cells, status_cells, telemetry_cells, telemetry_frame}
 use Rattle.frame_telemetry_trips.proofs.Readings.{gps_back, stamped_f32_back, stamped_bool_back, stamped_landed_back, fix_valid, landed_valid_lem, gps_valid_lem, stamped_f32_valid, stamped_bool_valid_lem, stamped_landed_valid, gps_bytes, stamped_f32_bytes, stamped_bool_bytes, stamped_landed_bytes}
 
@@ -73,13 +75,17 @@ head t = refl
 valid : (t : Telemetry) → telemetry_valid (telemetry_frame t) ≡ true
 unfolding telemetry_valid telemetry_tests telemetry_frame telemetry_cells battery_cells status_cells valid_option zeros byte_below le_option_position le_vec3 le_option_u8 le_option_u32 le_option_f32 frame_head u8_at le8 le_flag le_bytes le16 le32 le_f32
 valid t =
-    let g = gps_or_zero t.gps in
+    let g = unwrap_or t.gps zero_gps in
+    let armed = unwrap_or t.armed (record { t_ms = 0; value = false }) in
+    let landed = unwrap_or t.landed (record { t_ms = 0; value = LandedState.Undefined }) in
+    let rc_ok = unwrap_or t.rc_ok (record { t_ms = 0; value = false }) in
+    let ekf_ok = unwrap_or t.ekf_ok (record { t_ms = 0; value = false }) in
     λ j.
     ((((((((((((((((option_position_valid t.position j && gps_valid_lem t.gps j) && fix_valid g.fix j) && option_u8_valid g.sats j) && option_f32_valid g.hdop j)
     && stamped_f32_valid t.battery.voltage_v j) && stamped_f32_valid t.battery.percent j) && stamped_f32_valid t.battery.remaining_wh j)
     && option_u32_valid t.gcs_heartbeat_ms j)
-    && stamped_bool_valid_lem t.armed j) && flag_valid (value_bool t.armed) j) && stamped_landed_valid t.landed j) && landed_valid_lem (value_landed t.landed) j)
-    && stamped_bool_valid_lem t.rc_ok j) && flag_valid (value_bool t.rc_ok) j) && stamped_bool_valid_lem t.ekf_ok j) && flag_valid (value_bool t.ekf_ok) j)
+    && stamped_bool_valid_lem t.armed j) && flag_valid armed.value j) && stamped_landed_valid t.landed j) && landed_valid_lem landed.value j)
+    && stamped_bool_valid_lem t.rc_ok j) && flag_valid rc_ok.value j) && stamped_bool_valid_lem t.ekf_ok j) && flag_valid ekf_ok.value j)
 
 -- value, bytes, value: for each Telemetry whose numbers are within their types and whose floats are binary32's
 pub value_back : (t : Telemetry) → Within (telemetry_cells t) → read_telemetry (telemetry_frame t) ≡ Frame t

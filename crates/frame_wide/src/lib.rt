@@ -106,12 +106,6 @@ fn put_high(to: &mut [u8], at: usize, s: &[u8], p: usize, x: u64)
 
 // ---- one instant, behind the first n bytes
 
-fn wide(n: u8) -> usize
-    ensures { result ≡ n }
-{
-    n as usize
-}
-
 fn is_held(s: &[u8], n: usize) -> bool
     ensures { result ≡ is_held n s.now }
 {
@@ -165,13 +159,11 @@ fn instants(s: &[u8], gaps: &[u8], to: &mut [u64])
     requires { (length gaps.now ≤ 30) × (length to.old ≡ length gaps.now) }
     ensures { to.new ≡ instants_at 8 gaps.now (drop 4 s.now) }
 {
-    let mut i: usize = 4;
-    let mut k: usize = 0;
-    while k < gaps.len() {
-        let n = wide(gaps[k]);
+    let mut i = 4;
+    for k in 0..gaps.len() {
+        let n = usize::from(gaps[k]);
         to[k] = u64_at(s, i + n);
         i += n + 8;
-        k += 1;
     }
 }
 
@@ -179,15 +171,13 @@ fn widen(s: &[u8], gaps: &[u8], given: &[u64], to: &mut [u8])
     requires { (length given.now ≡ length gaps.now) × (4 + (foldr ◌+◌ 0 gaps.now + 4 * length gaps.now) ≤ length s.now) × (length s.now + 4 * length gaps.now ≤ length to.old) }
     ensures { to.new ≡ (take 4 to.old ++ widened gaps.now given.now (drop 4 s.now)) ++ drop (length s.now + 4 * length gaps.now) to.old }
 {
-    let mut i: usize = 4;
-    let mut j: usize = 4;
-    let mut k: usize = 0;
-    while k < gaps.len() {
-        let n = wide(gaps[k]);
+    let mut i = 4;
+    let mut j = 4;
+    for k in 0..gaps.len() {
+        let n = usize::from(gaps[k]);
         put_wide(to, j, &s[i..], n, given[k]);
         i += n + 4;
         j += n + 8;
-        k += 1;
     }
     put_part(to, j, &s[i..]);
 }
@@ -290,8 +280,8 @@ pub fn state_instants(s: &[u8]) -> [u64; 30]
 }
 
 // The bytes of the kind 5, some at a time, each at its place.
-fn low_first(to: &mut [u8], s: &[u8], given: &[u32])
-    requires { (length s.now ≡ 306) × (length given.now ≡ 30) × (186 ≤ length to.old) }
+fn low_first(to: &mut [u8], s: &[u8], given: &[u32; 30])
+    requires { (length s.now ≡ 306) × (186 ≤ length to.old) }
     ensures { to.new ≡ sets to.old 4 (take 22 (drop 4 (state_on given.now s.now))) }
 {
     put_byte(to, 4, s, 4);
@@ -302,8 +292,8 @@ fn low_first(to: &mut [u8], s: &[u8], given: &[u32])
     put_low(to, 21, s, 33, given[3]);
 }
 
-fn low_second(to: &mut [u8], s: &[u8], given: &[u32])
-    requires { (length s.now ≡ 306) × (length given.now ≡ 30) × (186 ≤ length to.old) }
+fn low_second(to: &mut [u8], s: &[u8], given: &[u32; 30])
+    requires { (length s.now ≡ 306) × (186 ≤ length to.old) }
     ensures { to.new ≡ sets to.old 26 (take 30 (drop 26 (state_on given.now s.now))) }
 {
     put_low(to, 26, s, 42, given[4]);
@@ -314,8 +304,8 @@ fn low_second(to: &mut [u8], s: &[u8], given: &[u32])
     put_low(to, 51, s, 87, given[9]);
 }
 
-fn low_third(to: &mut [u8], s: &[u8], given: &[u32])
-    requires { (length s.now ≡ 306) × (length given.now ≡ 30) × (186 ≤ length to.old) }
+fn low_third(to: &mut [u8], s: &[u8], given: &[u32; 30])
+    requires { (length s.now ≡ 306) × (186 ≤ length to.old) }
     ensures { to.new ≡ sets to.old 56 (take 30 (drop 56 (state_on given.now s.now))) }
 {
     put_low(to, 56, s, 96, given[10]);
@@ -326,8 +316,8 @@ fn low_third(to: &mut [u8], s: &[u8], given: &[u32])
     put_low(to, 81, s, 141, given[15]);
 }
 
-fn low_fourth(to: &mut [u8], s: &[u8], given: &[u32])
-    requires { (length s.now ≡ 306) × (length given.now ≡ 30) × (186 ≤ length to.old) }
+fn low_fourth(to: &mut [u8], s: &[u8], given: &[u32; 30])
+    requires { (length s.now ≡ 306) × (186 ≤ length to.old) }
     ensures { to.new ≡ sets to.old 86 (take 30 (drop 86 (state_on given.now s.now))) }
 {
     put_low(to, 86, s, 150, given[16]);
@@ -338,8 +328,8 @@ fn low_fourth(to: &mut [u8], s: &[u8], given: &[u32])
     put_low(to, 111, s, 195, given[21]);
 }
 
-fn low_fifth(to: &mut [u8], s: &[u8], given: &[u32])
-    requires { (length s.now ≡ 306) × (length given.now ≡ 30) × (186 ≤ length to.old) }
+fn low_fifth(to: &mut [u8], s: &[u8], given: &[u32; 30])
+    requires { (length s.now ≡ 306) × (186 ≤ length to.old) }
     ensures { to.new ≡ sets to.old 116 (take 18 (drop 116 (state_on given.now s.now))) }
 {
     put_low(to, 116, s, 204, given[22]);
@@ -350,8 +340,8 @@ fn low_fifth(to: &mut [u8], s: &[u8], given: &[u32])
     put_byte(to, 133, s, 233);
 }
 
-fn low_sixth(to: &mut [u8], s: &[u8], given: &[u32])
-    requires { (length s.now ≡ 306) × (length given.now ≡ 30) × (186 ≤ length to.old) }
+fn low_sixth(to: &mut [u8], s: &[u8], given: &[u32; 30])
+    requires { (length s.now ≡ 306) × (186 ≤ length to.old) }
     ensures { to.new ≡ sets to.old 134 (take 41 (drop 134 (state_on given.now s.now))) }
 {
     put_byte(to, 134, s, 234);
@@ -362,8 +352,8 @@ fn low_sixth(to: &mut [u8], s: &[u8], given: &[u32])
     put_byte(to, 174, s, 286);
 }
 
-fn low_last(to: &mut [u8], s: &[u8], given: &[u32])
-    requires { (length s.now ≡ 306) × (length given.now ≡ 30) × (186 ≤ length to.old) }
+fn low_last(to: &mut [u8], s: &[u8], given: &[u32; 30])
+    requires { (length s.now ≡ 306) × (186 ≤ length to.old) }
     ensures { to.new ≡ sets to.old 175 (take 11 (drop 175 (state_on given.now s.now))) }
 {
     put_low(to, 175, s, 287, given[28]);
@@ -372,8 +362,8 @@ fn low_last(to: &mut [u8], s: &[u8], given: &[u32])
     put_byte(to, 185, s, 305);
 }
 
-fn low_rest(to: &mut [u8], s: &[u8], given: &[u32])
-    requires { (length s.now ≡ 306) × (length given.now ≡ 30) × (186 ≤ length to.old) }
+fn low_rest(to: &mut [u8], s: &[u8], given: &[u32; 30])
+    requires { (length s.now ≡ 306) × (186 ≤ length to.old) }
     ensures { to.new ≡ sets to.old 116 (take 70 (drop 116 (state_on given.now s.now))) }
 {
     low_fifth(to, s, given);
@@ -382,23 +372,23 @@ fn low_rest(to: &mut [u8], s: &[u8], given: &[u32])
 }
 
 // The kind 5 of a kind 10, with these numbers for the instants that are there.
-pub fn state_on(s: &[u8], given: [u32; 30]) -> [u8; 186]
+pub fn state_on(s: &[u8], given: &[u32; 30]) -> [u8; 186]
     requires { length s.now ≡ 306 }
-    ensures { result ≡ state_on given s.now }
+    ensures { result ≡ state_on given.now s.now }
 {
     let mut r = [0u8; 186];
     wire::put_head(&mut r, 5, 184);
-    low_first(&mut r, s, &given);
-    low_second(&mut r, s, &given);
-    low_third(&mut r, s, &given);
-    low_fourth(&mut r, s, &given);
-    low_rest(&mut r, s, &given);
+    low_first(&mut r, s, given);
+    low_second(&mut r, s, given);
+    low_third(&mut r, s, given);
+    low_fourth(&mut r, s, given);
+    low_rest(&mut r, s, given);
     r
 }
 
 // The same of the kind 10.
-fn high_first(to: &mut [u8], s: &[u8], given: &[u64])
-    requires { (length s.now ≡ 186) × (length given.now ≡ 30) × (306 ≤ length to.old) }
+fn high_first(to: &mut [u8], s: &[u8], given: &[u64; 30])
+    requires { (length s.now ≡ 186) × (306 ≤ length to.old) }
     ensures { to.new ≡ sets to.old 4 (take 38 (drop 4 (frame_head 10 304 ++ widened state_gaps given.now (drop 4 s.now)))) }
 {
     put_byte(to, 4, s, 4);
@@ -409,8 +399,8 @@ fn high_first(to: &mut [u8], s: &[u8], given: &[u64])
     put_high(to, 33, s, 21, given[3]);
 }
 
-fn high_second(to: &mut [u8], s: &[u8], given: &[u64])
-    requires { (length s.now ≡ 186) × (length given.now ≡ 30) × (306 ≤ length to.old) }
+fn high_second(to: &mut [u8], s: &[u8], given: &[u64; 30])
+    requires { (length s.now ≡ 186) × (306 ≤ length to.old) }
     ensures { to.new ≡ sets to.old 42 (take 54 (drop 42 (frame_head 10 304 ++ widened state_gaps given.now (drop 4 s.now)))) }
 {
     put_high(to, 42, s, 26, given[4]);
@@ -421,8 +411,8 @@ fn high_second(to: &mut [u8], s: &[u8], given: &[u64])
     put_high(to, 87, s, 51, given[9]);
 }
 
-fn high_third(to: &mut [u8], s: &[u8], given: &[u64])
-    requires { (length s.now ≡ 186) × (length given.now ≡ 30) × (306 ≤ length to.old) }
+fn high_third(to: &mut [u8], s: &[u8], given: &[u64; 30])
+    requires { (length s.now ≡ 186) × (306 ≤ length to.old) }
     ensures { to.new ≡ sets to.old 96 (take 54 (drop 96 (frame_head 10 304 ++ widened state_gaps given.now (drop 4 s.now)))) }
 {
     put_high(to, 96, s, 56, given[10]);
@@ -433,8 +423,8 @@ fn high_third(to: &mut [u8], s: &[u8], given: &[u64])
     put_high(to, 141, s, 81, given[15]);
 }
 
-fn high_fourth(to: &mut [u8], s: &[u8], given: &[u64])
-    requires { (length s.now ≡ 186) × (length given.now ≡ 30) × (306 ≤ length to.old) }
+fn high_fourth(to: &mut [u8], s: &[u8], given: &[u64; 30])
+    requires { (length s.now ≡ 186) × (306 ≤ length to.old) }
     ensures { to.new ≡ sets to.old 150 (take 54 (drop 150 (frame_head 10 304 ++ widened state_gaps given.now (drop 4 s.now)))) }
 {
     put_high(to, 150, s, 86, given[16]);
@@ -445,8 +435,8 @@ fn high_fourth(to: &mut [u8], s: &[u8], given: &[u64])
     put_high(to, 195, s, 111, given[21]);
 }
 
-fn high_fifth(to: &mut [u8], s: &[u8], given: &[u64])
-    requires { (length s.now ≡ 186) × (length given.now ≡ 30) × (306 ≤ length to.old) }
+fn high_fifth(to: &mut [u8], s: &[u8], given: &[u64; 30])
+    requires { (length s.now ≡ 186) × (306 ≤ length to.old) }
     ensures { to.new ≡ sets to.old 204 (take 30 (drop 204 (frame_head 10 304 ++ widened state_gaps given.now (drop 4 s.now)))) }
 {
     put_high(to, 204, s, 116, given[22]);
@@ -457,8 +447,8 @@ fn high_fifth(to: &mut [u8], s: &[u8], given: &[u64])
     put_byte(to, 233, s, 133);
 }
 
-fn high_sixth(to: &mut [u8], s: &[u8], given: &[u64])
-    requires { (length s.now ≡ 186) × (length given.now ≡ 30) × (306 ≤ length to.old) }
+fn high_sixth(to: &mut [u8], s: &[u8], given: &[u64; 30])
+    requires { (length s.now ≡ 186) × (306 ≤ length to.old) }
     ensures { to.new ≡ sets to.old 234 (take 53 (drop 234 (frame_head 10 304 ++ widened state_gaps given.now (drop 4 s.now)))) }
 {
     put_byte(to, 234, s, 134);
@@ -469,8 +459,8 @@ fn high_sixth(to: &mut [u8], s: &[u8], given: &[u64])
     put_byte(to, 286, s, 174);
 }
 
-fn high_last(to: &mut [u8], s: &[u8], given: &[u64])
-    requires { (length s.now ≡ 186) × (length given.now ≡ 30) × (306 ≤ length to.old) }
+fn high_last(to: &mut [u8], s: &[u8], given: &[u64; 30])
+    requires { (length s.now ≡ 186) × (306 ≤ length to.old) }
     ensures { to.new ≡ sets to.old 287 (take 19 (drop 287 (frame_head 10 304 ++ widened state_gaps given.now (drop 4 s.now)))) }
 {
     put_high(to, 287, s, 175, given[28]);
@@ -479,8 +469,8 @@ fn high_last(to: &mut [u8], s: &[u8], given: &[u64])
     put_byte(to, 305, s, 185);
 }
 
-fn high_rest(to: &mut [u8], s: &[u8], given: &[u64])
-    requires { (length s.now ≡ 186) × (length given.now ≡ 30) × (306 ≤ length to.old) }
+fn high_rest(to: &mut [u8], s: &[u8], given: &[u64; 30])
+    requires { (length s.now ≡ 186) × (306 ≤ length to.old) }
     ensures { to.new ≡ sets to.old 204 (take 102 (drop 204 (frame_head 10 304 ++ widened state_gaps given.now (drop 4 s.now)))) }
 {
     high_fifth(to, s, given);
@@ -489,16 +479,16 @@ fn high_rest(to: &mut [u8], s: &[u8], given: &[u64])
 }
 
 // The kind 10 of a kind 5, with these instants where they are there.
-pub fn widen_state(low: &[u8], given: [u64; 30], to: &mut [u8])
+pub fn widen_state(low: &[u8], given: &[u64; 30], to: &mut [u8])
     requires { (length low.now ≡ 186) × (306 ≤ length to.old) }
-    ensures { to.new ≡ (frame_head 10 304 ++ widened state_gaps given (drop 4 low.now)) ++ drop 306 to.old }
+    ensures { to.new ≡ (frame_head 10 304 ++ widened state_gaps given.now (drop 4 low.now)) ++ drop 306 to.old }
 {
     wire::put_head(to, 10, 304);
-    high_first(to, low, &given);
-    high_second(to, low, &given);
-    high_third(to, low, &given);
-    high_fourth(to, low, &given);
-    high_rest(to, low, &given);
+    high_first(to, low, given);
+    high_second(to, low, given);
+    high_third(to, low, given);
+    high_fourth(to, low, given);
+    high_rest(to, low, given);
 }
 
 // ---- telemetry
@@ -557,8 +547,8 @@ pub fn telemetry_instants(s: &[u8]) -> [u64; 11]
 }
 
 // The bytes of the kind 3, some at a time, each at its place.
-fn low_now(to: &mut [u8], s: &[u8], given: &[u32])
-    requires { (length s.now ≡ 150) × (length given.now ≡ 11) × (106 ≤ length to.old) }
+fn low_now(to: &mut [u8], s: &[u8], given: &[u32; 11])
+    requires { (length s.now ≡ 150) × (106 ≤ length to.old) }
     ensures { to.new ≡ sets to.old 4 (take 46 (drop 4 (telemetry_on given.now s.now))) }
 {
     put_four(to, 4, given[0]);
@@ -569,8 +559,8 @@ fn low_now(to: &mut [u8], s: &[u8], given: &[u32])
     put_word(to, 46, s, 58);
 }
 
-fn low_gps(to: &mut [u8], s: &[u8], given: &[u32])
-    requires { (length s.now ≡ 150) × (length given.now ≡ 11) × (106 ≤ length to.old) }
+fn low_gps(to: &mut [u8], s: &[u8], given: &[u32; 11])
+    requires { (length s.now ≡ 150) × (106 ≤ length to.old) }
     ensures { to.new ≡ sets to.old 50 (take 27 (drop 50 (telemetry_on given.now s.now))) }
 {
     put_low(to, 50, s, 62, given[3]);
@@ -581,8 +571,8 @@ fn low_gps(to: &mut [u8], s: &[u8], given: &[u32])
     put_word(to, 73, s, 97);
 }
 
-fn low_heard(to: &mut [u8], s: &[u8], given: &[u32])
-    requires { (length s.now ≡ 150) × (length given.now ≡ 11) × (106 ≤ length to.old) }
+fn low_heard(to: &mut [u8], s: &[u8], given: &[u32; 11])
+    requires { (length s.now ≡ 150) × (106 ≤ length to.old) }
     ensures { to.new ≡ sets to.old 77 (take 22 (drop 77 (telemetry_on given.now s.now))) }
 {
     put_low(to, 77, s, 101, given[6]);
@@ -593,8 +583,8 @@ fn low_heard(to: &mut [u8], s: &[u8], given: &[u32])
     put_low(to, 94, s, 130, given[9]);
 }
 
-fn low_end(to: &mut [u8], s: &[u8], given: &[u32])
-    requires { (length s.now ≡ 150) × (length given.now ≡ 11) × (106 ≤ length to.old) }
+fn low_end(to: &mut [u8], s: &[u8], given: &[u32; 11])
+    requires { (length s.now ≡ 150) × (106 ≤ length to.old) }
     ensures { to.new ≡ sets to.old 99 (take 7 (drop 99 (telemetry_on given.now s.now))) }
 {
     put_byte(to, 99, s, 139);
@@ -603,27 +593,27 @@ fn low_end(to: &mut [u8], s: &[u8], given: &[u32])
 }
 
 // The kind 3 of a kind 9, with these numbers for the instants that are there.
-pub fn telemetry_on(s: &[u8], given: [u32; 11]) -> [u8; 106]
+pub fn telemetry_on(s: &[u8], given: &[u32; 11]) -> [u8; 106]
     requires { length s.now ≡ 150 }
-    ensures { result ≡ telemetry_on given s.now }
+    ensures { result ≡ telemetry_on given.now s.now }
 {
     let mut r = [0u8; 106];
     wire::put_head(&mut r, 3, 104);
-    low_now(&mut r, s, &given);
-    low_gps(&mut r, s, &given);
-    low_heard(&mut r, s, &given);
-    low_end(&mut r, s, &given);
+    low_now(&mut r, s, given);
+    low_gps(&mut r, s, given);
+    low_heard(&mut r, s, given);
+    low_end(&mut r, s, given);
     r
 }
 
 // The kind 9 of a kind 3, with these instants where they are there.
-pub fn widen_telemetry(low: &[u8], given: [u64; 11], to: &mut [u8])
+pub fn widen_telemetry(low: &[u8], given: &[u64; 11], to: &mut [u8])
     requires { (length low.now ≡ 106) × (150 ≤ length to.old) }
-    ensures { to.new ≡ (frame_head 9 148 ++ widened telemetry_gaps given (drop 4 low.now)) ++ drop 150 to.old }
+    ensures { to.new ≡ (frame_head 9 148 ++ widened telemetry_gaps given.now (drop 4 low.now)) ++ drop 150 to.old }
 {
     let gaps = telemetry_gaps();
     wire::put_head(to, 9, 148);
-    widen(low, &gaps, &given, to);
+    widen(low, &gaps, given, to);
 }
 
 // ---- the instants after a step
@@ -639,32 +629,33 @@ fn stays(s: &[u8], at: usize, x: u64, reading: u64) -> u64
 fn epoch_stays(s: &[u8], third: bool) -> bool
     ensures { result ≡ (flag_at s.now 305 && not third) }
 {
-    if wire::flag_at(s, 305) { !third } else { false }
+    wire::flag_at(s, 305) && !third
+}
+
+// What the instants after a step depend on beside the state before it.
+#[derive(Clone, Copy)]
+pub struct StepInstants {
+    pub reading: u64,
+    // The position's stamp, stored where the step has a distance.
+    pub position: u64,
+    pub distance: bool,
+    pub fault: bool,
+    pub third_fault: bool,
 }
 
 // The instants after a step, by the bytes of the kind 10 before it.
-pub fn instants_next(
-    s: &[u8],
-    x: [u64; 30],
-    reading: u64,
-    position: u64,
-    dist: bool,
-    fault: bool,
-    third: bool,
-) -> [u64; 30]
-    ensures { result ≡ listed (instants_next s.now (unlisted x) reading position dist fault third) }
+pub fn instants_next(s: &[u8], x: &[u64; 30], step: &StepInstants) -> [u64; 30]
+    ensures { result ≡ listed (instants_next s.now (unlisted x.now) step.now.reading step.now.position step.now.distance step.now.fault step.now.third_fault) }
 {
-    let mut r = x;
-    let mut k: usize = 0;
-    while k < 24 {
-        r[k] = stays(s, 6 + 9 * k, x[k], reading);
-        k += 1;
+    let mut r = *x;
+    for k in 0..24 {
+        r[k] = stays(s, 6 + 9 * k, x[k], step.reading);
     }
-    r[24] = stays(s, 223, x[24], reading);
-    r[25] = stays(s, 235, x[25], reading);
-    r[26] = stays(s, 244, x[26], reading);
-    r[27] = wide_number(dist, position, x[27]);
-    r[28] = wide_number(fault, x[28], reading);
-    r[29] = wide_number(epoch_stays(s, third), x[29], reading);
+    r[24] = stays(s, 223, x[24], step.reading);
+    r[25] = stays(s, 235, x[25], step.reading);
+    r[26] = stays(s, 244, x[26], step.reading);
+    r[27] = wide_number(step.distance, step.position, x[27]);
+    r[28] = wide_number(step.fault, x[28], step.reading);
+    r[29] = wide_number(epoch_stays(s, step.third_fault), x[29], step.reading);
     r
 }

@@ -1,4 +1,5 @@
 -- The flags of a kind 10 are those of the state that is read from it. Assumes nothing.
+use Rattle.std.specs.Prelude.{Option, Some, None}
 use Prim.Native.Nat.{ℕ, ◌+◌}
 use mathlib.Core.Path.{◌≡◌, ◌∙◌, ap, refl, sym, subst}
 use mathlib.Core.Bool.{Bool, true, false, not, ◌&&◌, cond}
@@ -7,7 +8,6 @@ use native.Mathlib.Omega.{arith}
 use lib.Dec.{eqb}
 use lib.ListN.{length, replicate}
 use borrow.Author.Tests.{eqb-true}
-use Rattle.types.specs.declared.OptionU32.{OptionU32}
 use Rattle.timers.specs.Timer.{started}
 use Rattle.triggers.specs.declared.TriggerState.{TriggerState}
 use Rattle.triggers.specs.Update.{none_raised}
@@ -33,7 +33,7 @@ started_at : (t : List ℕ) (i : ℕ) → started (option_u32_at t i) ≡ flag_a
 unfolding option_u32_at
 started_at t i = go (flag_at t i)
   where
-    go : (b : Bool) → started (cond b (OptionU32.Some (u32_at t (i + 1))) OptionU32.None) ≡ b
+    go : (b : Bool) → started (cond b (Some (u32_at t (i + 1))) None) ≡ b
     go true = refl
     go false = refl
 
@@ -105,9 +105,9 @@ wide_accepted s x e = go (eqb (frame_fault 10 304 s) 0) refl (read_state false (
     go true p (StateRead.Refused n) q h = let z : ◌≡◌ {A = ℕ} 0 1 = cc in absurd (omega arith)
     go false p r q h = let z : ◌≡◌ {A = ℕ} 0 1 = cc in absurd (omega arith)
 
-started_instead : (n : ℕ) (o : OptionU32) → started (instead n o) ≡ started o
-started_instead n OptionU32.None = refl
-started_instead n (OptionU32.Some m) = refl
+started_instead : (n : ℕ) (o : Option ℕ) → started (instead n o) ≡ started o
+started_instead n None = refl
+started_instead n (Some m) = refl
 
 pub timer_instead : (i : TimerName → ℕ) (t : TriggerState) (n : TimerName) → (timer_of (triggers_with i t) n).since_ms ≡ instead (i n) (timer_of t n).since_ms
 unfolding triggers_with
@@ -153,9 +153,9 @@ flags_wide s x e =
     let a = wide_accepted s x e in
     subst (Flags s) a.at (flags_at s (wide_instants s) a.inner (flags_read (replicate 30 0) s a.inner refl a.head a.read))
 
-onwards_is : (now a : ℕ) (o : OptionU32) (b : Bool) → started o ≡ b → onwards now a o ≡ cond b a now
-onwards_is now a OptionU32.None b h = ap (λ (f : Bool). cond f a now) h
-onwards_is now a (OptionU32.Some m) b h = ap (λ (f : Bool). cond f a now) h
+onwards_is : (now a : ℕ) (o : Option ℕ) (b : Bool) → started o ≡ b → onwards now a o ≡ cond b a now
+onwards_is now a None b h = ap (λ (f : Bool). cond f a now) h
+onwards_is now a (Some m) b h = ap (λ (f : Bool). cond f a now) h
 
 pub next_is :
     (s : List ℕ) (i : Instants) (j : Stamps) (x : Supervisor) (r : Stepped) → Flags s x →

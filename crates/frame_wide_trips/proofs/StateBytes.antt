@@ -1,12 +1,11 @@
 -- A kind 10 read and written again. Assumes nothing.
+use Rattle.std.specs.Prelude.{Option, Some, None}
 use Prim.Native.Nat.{ℕ, ◌+◌, ◌*◌, ◌^◌, ◌<◌}
 use mathlib.Core.Path.{◌≡◌, ◌∙◌, ap, sym, subst}
 use mathlib.Core.Bool.{true, false, ◌&&◌}
 use mathlib.Core.List.{List, [], ◌∷◌, ◌++◌}
 use lib.Dec.{lit<}
 use lib.ListN.{drop, replicate}
-use Rattle.types.specs.declared.OptionU32.{OptionU32}
-use Rattle.types.specs.declared.OptionPositionSample.{OptionPositionSample}
 use Rattle.triggers.specs.Update.{none_raised}
 use Rattle.supervisor.specs.declared.Supervisor.{Supervisor}
 use Rattle.wire.specs.Fields.{Bytes, u8_at, number_at, le_bytes, le16, bytes_from}
@@ -31,6 +30,7 @@ use Rattle.frame_wide_trips.proofs.Resized.{bytes_on, instants_lt, eight_bytes}
 use Rattle.frame_wide_trips.proofs.StateMarks.{frame_on, opened}
 use Rattle.frame_wide_trips.proofs.Written.{written}
 use Rattle.frame_wide_trips.proofs.Flags.{accepted, wide_accepted, timer_instead}
+use Rattle.types.specs.declared.PositionSample.{PositionSample}
 
 module _ (s : List ℕ) (b : Bytes s) (h : frame_fault 10 304 s ≡ 0) where
   abbrev all : List ℕ
@@ -110,9 +110,9 @@ bytes_again s x b e = let a = wide_accepted s x e in sym (ap wide_state_frame a.
 
 -- ---- what was read is within its types
 
-floats_fit : (n : ℕ) (o : OptionPositionSample) → Within (position_cells o) → Within (position_cells (position_at 0 (position_at n o)))
-floats_fit n OptionPositionSample.None h = h
-floats_fit n (OptionPositionSample.Some p) h = (lit< tt, h.1)
+floats_fit : (n : ℕ) (o : Option PositionSample) → Within (position_cells o) → Within (position_cells (position_at 0 (position_at n o)))
+floats_fit n None h = h
+floats_fit n (Some p) h = (lit< tt, h.1)
 
 typed_at : (s : List ℕ) (y : Supervisor) → Bytes s → read_state false (state_on (replicate 30 0) s) ≡ Frame y → TypedWide (supervisor_at (wide_instants s) y)
 unfolding supervisor_at wide_instants unlisted state_on
@@ -122,7 +122,7 @@ typed_at s y b e =
     record {
       timers =
           λ n.
-          subst (λ (o : OptionU32). own o < 2 ^ 64) (sym (timer_instead i.timer y.triggers n))
+          subst (λ (o : Option ℕ). own o < 2 ^ 64) (sym (timer_instead i.timer y.triggers n))
           (instant_lt (i.timer n) (timer_of y.triggers n).since_ms (lt (timer_place n)));
       recovery = instant_lt i.recovery y.arbiter.recovery_since_ms (lt 25);
       hold = instant_lt i.gate y.disarm.hold_since_ms (lt 26);

@@ -1,13 +1,12 @@
 -- A kind 10 with marks for its instants, read. Assumes nothing.
+use Rattle.std.specs.Prelude.{Option, Some, None}
 use Prim.Native.Nat.{ℕ, ◌+◌, ◌^◌, ◌<◌, min}
 use mathlib.Core.Path.{◌≡◌, ◌∙◌, ap, refl, sym}
 use mathlib.Core.Bool.{Bool, true, false, cond, ◌&&◌}
 use mathlib.Core.List.{List, ◌++◌}
 use lib.Dec.{eqb}
 use lib.ListN.{get_or, replicate}
-use Rattle.types.specs.declared.OptionU32.{OptionU32}
 use Rattle.types.specs.declared.Vec3.{Vec3}
-use Rattle.types.specs.declared.OptionPositionSample.{OptionPositionSample}
 use Rattle.triggers.specs.declared.Raised.{Raised}
 use Rattle.triggers.specs.Update.{none_raised}
 use Rattle.supervisor.specs.declared.Supervisor.{Supervisor}
@@ -29,10 +28,11 @@ use Rattle.frame_wide.specs.Resized.{narrowed}
 use Rattle.frame_wide.specs.WideState.{state_gaps, state_on, with_instants}
 use Rattle.frame_wide_trips.specs.Claim.{Words}
 use Rattle.frame_wide_trips.proofs.Instant.{test_of, test_on, value_of, value_on}
+use Rattle.types.specs.declared.PositionSample.{PositionSample}
 
 -- a sample behind its flag
-abbrev sample_or : Bool → ℕ → Vec3 → Vec3 → OptionPositionSample
-sample_or b t p v = cond b (OptionPositionSample.Some (record { t_ms = t; pos = p; vel = v })) OptionPositionSample.None
+abbrev sample_or : Bool → ℕ → Vec3 → Vec3 → Option PositionSample
+sample_or b t p v = cond b (Some (record { t_ms = t; pos = p; vel = v })) None
 
 finite_on : (b : Bool) (t u : ℕ) (p v : Vec3) → finite_stored (sample_or b t p v) ≡ finite_stored (sample_or b u p v)
 finite_on true t u p v = refl
@@ -115,15 +115,15 @@ module _ (given s : List ℕ) where
       && byte_below t 185 2
 
   module _ (w : (k : ℕ) → mark k < 2 ^ 32) where
-    word : (at k : ℕ) → value_of OptionU32.Some OptionU32.None (get_or s at 0) (mark k) (else at) ≡ instead (mark k) (value_of OptionU32.Some OptionU32.None (get_or s at 0) 0 (else at))
-    word at k = value_on OptionU32.Some OptionU32.None (instead (mark k)) (get_or s at 0) (mark k) (else at) (w k) (λ u. refl) refl
+    word : (at k : ℕ) → value_of Some None (get_or s at 0) (mark k) (else at) ≡ instead (mark k) (value_of Some None (get_or s at 0) 0 (else at))
+    word at k = value_on Some None (instead (mark k)) (get_or s at 0) (mark k) (else at) (w k) (λ u. refl) refl
 
     sample :
         (p v : Vec3) →
-        value_of (λ n. OptionPositionSample.Some (record { t_ms = n; pos = p; vel = v })) OptionPositionSample.None (get_or s 253 0) (mark 27) (else 253)
-        ≡ position_at (mark 27) (value_of (λ n. OptionPositionSample.Some (record { t_ms = n; pos = p; vel = v })) OptionPositionSample.None (get_or s 253 0) 0 (else 253))
+        value_of (λ n. Some (record { t_ms = n; pos = p; vel = v })) None (get_or s 253 0) (mark 27) (else 253)
+        ≡ position_at (mark 27) (value_of (λ n. Some (record { t_ms = n; pos = p; vel = v })) None (get_or s 253 0) 0 (else 253))
     sample p v =
-        value_on (λ n. OptionPositionSample.Some (record { t_ms = n; pos = p; vel = v })) OptionPositionSample.None (position_at (mark 27)) (get_or s 253 0) (mark 27) (else 253)
+        value_on (λ n. Some (record { t_ms = n; pos = p; vel = v })) None (position_at (mark 27)) (get_or s 253 0) (mark 27) (else 253)
         (w 27) (λ u. refl) refl
 
     triggers_on : (r : Raised) → triggers_at (state_on row all) r ≡ triggers_with (unlisted given).timer (triggers_at (state_on none all) r)

@@ -1,18 +1,17 @@
 -- A state written as a kind 10 and read again. Assumes nothing.
+use Rattle.std.specs.Prelude.{Option, Some, None, ℕ, unwrap_or}
 use Prim.Native.Nat.{◌^◌, ◌<◌}
 use mathlib.Core.Path.{◌≡◌, ◌∙◌, ap, refl}
 use mathlib.Core.Bool.{false}
 use mathlib.Core.List.{◌++◌}
 use lib.Dec.{lit<}
 use lib.ListN.{length, replicate}
-use Rattle.types.specs.declared.OptionU32.{OptionU32}
-use Rattle.types.specs.declared.OptionPositionSample.{OptionPositionSample}
 use Rattle.supervisor.specs.declared.Supervisor.{Supervisor}
 use Rattle.supervisor.specs.Rules.{finite_stored, Rules, RaisedFits}
 use Rattle.wire.specs.Fields.{u8_at, number_at, u16_at, le_bytes, le8, le16, le32, le_f32, le_flag}
 use Rattle.wire.specs.Frame.{frame_fault, frame_head}
 use Rattle.wire.proofs.Number.{bytes_number}
-use Rattle.options.specs.Options.{u32_or_zero, le_option_u32}
+use Rattle.options.specs.Options.{le_option_u32}
 use Rattle.options.specs.Position.{le_vec3, le_option_position}
 use Rattle.options.specs.Enums.{le_action, le_reason}
 use Rattle.frame_state.specs.declared.StateRead.TheVariants.{Frame}
@@ -25,6 +24,7 @@ use Rattle.frame_wide.specs.Resized.{instants_at, narrowed, widened}
 use Rattle.frame_wide.specs.WideState.{state_gaps, state_on, wide_instants, read_wide_state, wide_state_frame}
 use Rattle.frame_wide_trips.specs.Claim.{TypedWide}
 use Rattle.frame_wide_trips.proofs.Readings.{instant_zero, sample_zero, instant_back, sample_back}
+use Rattle.types.specs.declared.PositionSample.{PositionSample}
 
 -- ---- the frame's head and length
 
@@ -89,13 +89,13 @@ at_zero x =
     ++ (le8 x.backwards_streak
     ++ le_flag x.initialized))))))))))))))))))))))))))))))))))))))
 
-zero_word : (o : OptionU32) → u32_or_zero (instead 0 o) < 2 ^ 32
-zero_word OptionU32.None = lit< tt
-zero_word (OptionU32.Some n) = lit< tt
+zero_word : (o : Option ℕ) → unwrap_or (instead 0 o) 0 < 2 ^ 32
+zero_word None = lit< tt
+zero_word (Some n) = lit< tt
 
-zero_finite : (o : OptionPositionSample) → finite_stored (position_at 0 o) ≡ finite_stored o
-zero_finite OptionPositionSample.None = refl
-zero_finite (OptionPositionSample.Some p) = refl
+zero_finite : (o : Option PositionSample) → finite_stored (position_at 0 o) ≡ finite_stored o
+zero_finite None = refl
+zero_finite (Some p) = refl
 
 zero_typed : (x : Supervisor) → TypedWide x → Typed (supervisor_at zeroes x)
 unfolding supervisor_at triggers_at

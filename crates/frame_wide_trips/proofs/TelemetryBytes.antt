@@ -1,4 +1,5 @@
 -- A kind 9 read and written again. Assumes nothing.
+use Rattle.std.specs.Prelude.{Option, Some, None, unwrap_or}
 use Prim.Native.Nat.{ℕ, zero, suc, ◌+◌, ◌^◌, ◌<◌}
 use mathlib.Core.Path.{◌≡◌, ◌∙◌, ap, refl, sym, subst}
 use mathlib.Core.Bool.{Bool, true, false, cond}
@@ -6,19 +7,11 @@ use mathlib.Core.List.{List, [], ◌∷◌, ◌++◌}
 use native.Mathlib.Omega.{arith}
 use lib.Dec.{T, eqb, lit<}
 use lib.ListN.{get_or, drop, replicate}
-use lib.Ieee.{binary32, fits}
+use lib.Ieee.{binary32, fits, of_bits}
 use lib.Ieee.Bits.{of_bits-fits}
 use borrow.Author.Tests.{eqb-true}
 use Rattle.types.specs.declared.GpsFix.{GpsFix}
 use Rattle.types.specs.declared.LandedState.{LandedState}
-use Rattle.types.specs.declared.OptionU8.{OptionU8}
-use Rattle.types.specs.declared.OptionU32.{OptionU32}
-use Rattle.types.specs.declared.OptionF32.{OptionF32}
-use Rattle.types.specs.declared.OptionStampedF32.{OptionStampedF32}
-use Rattle.types.specs.declared.OptionStampedBool.{OptionStampedBool}
-use Rattle.types.specs.declared.OptionStampedLandedState.{OptionStampedLandedState}
-use Rattle.types.specs.declared.OptionPositionSample.{OptionPositionSample}
-use Rattle.types.specs.declared.OptionGpsSample.{OptionGpsSample}
 use Rattle.types.specs.declared.Telemetry.{Telemetry}
 use Rattle.types.specs.Numbers.{fix_number, landed_number}
 use Rattle.wire.specs.Fields.{Bytes, u8_at, number_at, flag_at, u32_at, f32_at, le_bytes, le16, le32, le_f32, bytes_from}
@@ -29,11 +22,11 @@ use Rattle.wire.proofs.Head.{head_says, head_bytes}
 use Rattle.wire.proofs.Number.{number_bytes}
 use Rattle.wire.proofs.Cells.{nan_free}
 use Rattle.wire.proofs.Whole.{whole, each}
-use Rattle.options.specs.Options.{zeros, valid_option, u8_or_zero, u32_or_zero, f32_or_zero, option_u8_at, option_f32_at}
+use Rattle.options.specs.Options.{zeros, valid_option, option_u8_at, option_f32_at}
 use Rattle.options.specs.Position.{vec3_at, option_position_at, position_cells}
 use Rattle.frame_telemetry.specs.declared.TelemetryRead.{TelemetryRead}
 use Rattle.frame_telemetry.specs.declared.TelemetryRead.TheVariants.{Frame, Refused}
-use Rattle.frame_telemetry.specs.Readings.{fix_at, option_gps_at, gps_cells, stamped_f32_at, stamped_f32_cells, stamp_bool, stamp_landed, value_landed}
+use Rattle.frame_telemetry.specs.Readings.{fix_at, option_gps_at, gps_cells, stamped_f32_at, stamped_f32_cells}
 use Rattle.frame_telemetry.specs.TelemetryFrame.{telemetry_at, telemetry_tests, telemetry_valid, read_telemetry, battery_cells, status_cells, telemetry_cells}
 use Rattle.frame_telemetry_trips.proofs.Trips.{within_joined, bytes_back}
 use Rattle.instants.specs.Retimed.{Stamps, instead, position_at, gps_at, value_at}
@@ -47,6 +40,7 @@ use Rattle.frame_wide_trips.proofs.Readings.{instant_lt, sample_lt, gps_lt, valu
 use Rattle.frame_wide_trips.proofs.Resized.{bytes_on, instants_lt, eight_bytes}
 use Rattle.frame_wide_trips.proofs.TelemetryMarks.{frame_on, opened}
 use Rattle.frame_wide_trips.proofs.TelemetryTrips.{written}
+use Rattle.types.specs.declared.Stamped.{Stamped}
 
 -- what an accepted body says
 accepted : (b : Bool) (u t : Telemetry) → cond b (Frame u) (Refused 4) ≡ Frame t → (b ≡ true) × (u ≡ t)
@@ -162,22 +156,22 @@ landed_number_lem LandedState.Takeoff = lit< tt
 landed_number_lem LandedState.Landing = lit< tt
 
 module _ (n : List ℕ) (b : Bytes n) where
-  zero_fits : T (fits binary32 (f32_or_zero OptionF32.None))
+  zero_fits : T (fits binary32 (unwrap_or None (of_bits binary32 0)))
   zero_fits = of_bits-fits binary32 0
 
-  u8_fits : (i : ℕ) → u8_or_zero (option_u8_at n i) < 2 ^ 8
+  u8_fits : (i : ℕ) → unwrap_or (option_u8_at n i) 0 < 2 ^ 8
   unfolding option_u8_at Bytes
   u8_fits i = go (flag_at n i)
     where
-      go : (f : Bool) → u8_or_zero (cond f (OptionU8.Some (u8_at n (i + 1))) OptionU8.None) < 2 ^ 8
+      go : (f : Bool) → unwrap_or (cond f (Some (u8_at n (i + 1))) None) 0 < 2 ^ 8
       go true = b (i + 1)
       go false = lit< tt
 
-  f32_or_fits : (i : ℕ) → T (fits binary32 (f32_or_zero (option_f32_at n i)))
+  f32_or_fits : (i : ℕ) → T (fits binary32 (unwrap_or (option_f32_at n i) (of_bits binary32 0)))
   unfolding option_f32_at
   f32_or_fits i = go (flag_at n i)
     where
-      go : (f : Bool) → T (fits binary32 (f32_or_zero (cond f (OptionF32.Some (f32_at n (i + 1))) OptionF32.None)))
+      go : (f : Bool) → T (fits binary32 (unwrap_or (cond f (Some (f32_at n (i + 1))) None) (of_bits binary32 0)))
       go true = f32_fits n (i + 1)
       go false = zero_fits
 
@@ -185,7 +179,7 @@ module _ (n : List ℕ) (b : Bytes n) where
   unfolding option_position_at vec3_at
   position_fits i k = go (flag_at n i)
     where
-      go : (f : Bool) → Within (position_cells (position_at 0 (position_at k (cond f (OptionPositionSample.Some (record { t_ms = u32_at n (i + 1); pos = vec3_at n (i + 5); vel = vec3_at n (i + 17) })) OptionPositionSample.None))))
+      go : (f : Bool) → Within (position_cells (position_at 0 (position_at k (cond f (Some (record { t_ms = u32_at n (i + 1); pos = vec3_at n (i + 5); vel = vec3_at n (i + 17) })) None))))
       go true = (lit< tt, (f32_fits n (i + 5), (f32_fits n (i + 5 + 4), (f32_fits n (i + 5 + 8), (f32_fits n (i + 17), (f32_fits n (i + 17 + 4), (f32_fits n (i + 17 + 8), tt)))))))
       go false = let z = zero_fits in (lit< tt, (z, (z, (z, (z, (z, (z, tt)))))))
 
@@ -193,7 +187,7 @@ module _ (n : List ℕ) (b : Bytes n) where
   unfolding option_gps_at
   gps_fits i k = go (flag_at n i)
     where
-      go : (f : Bool) → Within (gps_cells (gps_at 0 (gps_at k (cond f (OptionGpsSample.Some (record { t_ms = u32_at n (i + 1); fix = fix_at n (i + 5); sats = option_u8_at n (i + 6); hdop = option_f32_at n (i + 8) })) OptionGpsSample.None))))
+      go : (f : Bool) → Within (gps_cells (gps_at 0 (gps_at k (cond f (Some (record { t_ms = u32_at n (i + 1); fix = fix_at n (i + 5); sats = option_u8_at n (i + 6); hdop = option_f32_at n (i + 8) })) None))))
       go true = (lit< tt, (fix_fits (fix_at n (i + 5)), (u8_fits (i + 6), (f32_or_fits (i + 8), tt))))
       go false = (lit< tt, (lit< tt, (lit< tt, (zero_fits, tt))))
 
@@ -201,21 +195,21 @@ module _ (n : List ℕ) (b : Bytes n) where
   unfolding stamped_f32_at
   value_fits i k = go (flag_at n i)
     where
-      go : (f : Bool) → Within (stamped_f32_cells (value_at 0 (value_at k (cond f (OptionStampedF32.Some (u32_at n (i + 1)) (f32_at n (i + 5))) OptionStampedF32.None))))
+      go : (f : Bool) → Within (stamped_f32_cells (value_at 0 (value_at k (cond f (Some (record { t_ms = u32_at n (i + 1); value = f32_at n (i + 5) })) None))))
       go true = (lit< tt, (f32_fits n (i + 5), tt))
       go false = (lit< tt, (zero_fits, tt))
 
-word_fits : (k : ℕ) (o : OptionU32) → u32_or_zero (instead 0 (instead k o)) < 2 ^ 32
-word_fits k OptionU32.None = lit< tt
-word_fits k (OptionU32.Some m) = lit< tt
+word_fits : (k : ℕ) (o : Option ℕ) → unwrap_or (instead 0 (instead k o)) 0 < 2 ^ 32
+word_fits k None = lit< tt
+word_fits k (Some m) = lit< tt
 
-flag_fits : (k : ℕ) (o : OptionStampedBool) → stamp_bool (flag_with 0 (flag_with k o)) < 2 ^ 32
-flag_fits k OptionStampedBool.None = lit< tt
-flag_fits k (OptionStampedBool.Some t b) = lit< tt
+flag_fits : (k : ℕ) (o : Option (Stamped Bool)) → (unwrap_or (flag_with 0 (flag_with k o)) (record { t_ms = 0; value = false })).t_ms < 2 ^ 32
+flag_fits k None = lit< tt
+flag_fits k (Some r) = lit< tt
 
-landed_fits : (k : ℕ) (o : OptionStampedLandedState) → stamp_landed (landed_with 0 (landed_with k o)) < 2 ^ 32
-landed_fits k OptionStampedLandedState.None = lit< tt
-landed_fits k (OptionStampedLandedState.Some t l) = lit< tt
+landed_fits : (k : ℕ) (o : Option (Stamped LandedState)) → (unwrap_or (landed_with 0 (landed_with k o)) (record { t_ms = 0; value = LandedState.Undefined })).t_ms < 2 ^ 32
+landed_fits k None = lit< tt
+landed_fits k (Some r) = lit< tt
 
 others_fit : (n : List ℕ) (i : Stamps) → Bytes n → Within (telemetry_cells (telemetry_with zero_stamps (telemetry_with i (telemetry_at n))))
 unfolding telemetry_at telemetry_with telemetry_cells battery_cells status_cells
@@ -246,7 +240,7 @@ others_fit n i b =
                           (
                             landed_fits i.landed u.landed,
                             (
-                              landed_number_lem (value_landed x.landed),
+                              landed_number_lem (unwrap_or x.landed (record { t_ms = 0; value = LandedState.Undefined })).value,
                               (
                                 flag_fits i.rc u.rc_ok,
                                 (

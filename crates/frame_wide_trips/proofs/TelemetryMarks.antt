@@ -1,4 +1,5 @@
 -- A kind 9 with marks for its instants, read. Assumes nothing.
+use Rattle.std.specs.Prelude.{Option, Some, None}
 use Prim.Native.Nat.{ℕ, ◌+◌, ◌^◌, ◌<◌, min}
 use mathlib.Core.Path.{◌≡◌, ◌∙◌, ap, refl, sym}
 use mathlib.Core.Bool.{Bool, true, false, cond, ◌&&◌}
@@ -8,14 +9,6 @@ use lib.ListN.{get_or, replicate}
 use Rattle.types.specs.declared.Vec3.{Vec3}
 use Rattle.types.specs.declared.GpsFix.{GpsFix}
 use Rattle.types.specs.declared.LandedState.{LandedState}
-use Rattle.types.specs.declared.OptionU8.{OptionU8}
-use Rattle.types.specs.declared.OptionU32.{OptionU32}
-use Rattle.types.specs.declared.OptionF32.{OptionF32}
-use Rattle.types.specs.declared.OptionStampedF32.{OptionStampedF32}
-use Rattle.types.specs.declared.OptionStampedBool.{OptionStampedBool}
-use Rattle.types.specs.declared.OptionStampedLandedState.{OptionStampedLandedState}
-use Rattle.types.specs.declared.OptionPositionSample.{OptionPositionSample}
-use Rattle.types.specs.declared.OptionGpsSample.{OptionGpsSample}
 use Rattle.types.specs.declared.Telemetry.{Telemetry}
 use Rattle.wire.specs.Fields.{u8_at, number_at, u16_at, u32_at, f32_at, flag_at, byte_below, le_bytes, le16, le32, elements_from, bytes_from}
 use Rattle.wire.specs.Frame.{frame_fault, frame_head}
@@ -34,22 +27,25 @@ use Rattle.frame_wide.specs.Resized.{narrowed}
 use Rattle.frame_wide.specs.WideTelemetry.{telemetry_gaps, telemetry_on, with_stamps}
 use Rattle.frame_wide_trips.specs.Claim.{Words}
 use Rattle.frame_wide_trips.proofs.Instant.{test_of, test_on, value_of, value_on}
+use Rattle.types.specs.declared.Stamped.{Stamped}
+use Rattle.types.specs.declared.PositionSample.{PositionSample}
+use Rattle.types.specs.declared.GpsSample.{GpsSample}
 
 -- readings by their stamps
-abbrev sample_of : Vec3 → Vec3 → ℕ → OptionPositionSample
-sample_of p v n = OptionPositionSample.Some (record { t_ms = n; pos = p; vel = v })
+abbrev sample_of : Vec3 → Vec3 → ℕ → Option PositionSample
+sample_of p v n = Some (record { t_ms = n; pos = p; vel = v })
 
-abbrev gps_of : GpsFix → OptionU8 → OptionF32 → ℕ → OptionGpsSample
-gps_of f u h n = OptionGpsSample.Some (record { t_ms = n; fix = f; sats = u; hdop = h })
+abbrev gps_of : GpsFix → Option ℕ → Option Float → ℕ → Option GpsSample
+gps_of f u h n = Some (record { t_ms = n; fix = f; sats = u; hdop = h })
 
-abbrev float_of : Float → ℕ → OptionStampedF32
-float_of x n = OptionStampedF32.Some n x
+abbrev float_of : Float → ℕ → Option (Stamped Float)
+float_of x n = Some (record { t_ms = n; value = x })
 
-abbrev flag_of : Bool → ℕ → OptionStampedBool
-flag_of b n = OptionStampedBool.Some n b
+abbrev flag_of : Bool → ℕ → Option (Stamped Bool)
+flag_of b n = Some (record { t_ms = n; value = b })
 
-abbrev landed_of : LandedState → ℕ → OptionStampedLandedState
-landed_of l n = OptionStampedLandedState.Some n l
+abbrev landed_of : LandedState → ℕ → Option (Stamped LandedState)
+landed_of l n = Some (record { t_ms = n; value = l })
 
 module _ (given s : List ℕ) where
   abbrev row : List ℕ
@@ -100,19 +96,19 @@ module _ (given s : List ℕ) where
         λ j.
         record {
           now_ms = u32_back (mark 0) (w 0) j;
-          position = value (sample_of (vec3_at t 13) (vec3_at t 25)) OptionPositionSample.None (position_at (mark 1)) 12 1 (λ u. refl) refl j;
-          gps = value (gps_of (fix_at t 42) (option_u8_at t 43) (option_f32_at t 45)) OptionGpsSample.None (gps_at (mark 2)) 45 2 (λ u. refl) refl j;
+          position = value (sample_of (vec3_at t 13) (vec3_at t 25)) None (position_at (mark 1)) 12 1 (λ u. refl) refl j;
+          gps = value (gps_of (fix_at t 42) (option_u8_at t 43) (option_f32_at t 45)) None (gps_at (mark 2)) 45 2 (λ u. refl) refl j;
           battery =
               record {
-                voltage_v = value (float_of (f32_at t 55)) OptionStampedF32.None (value_at (mark 3)) 62 3 (λ u. refl) refl j;
-                percent = value (float_of (f32_at t 64)) OptionStampedF32.None (value_at (mark 4)) 75 4 (λ u. refl) refl j;
-                remaining_wh = value (float_of (f32_at t 73)) OptionStampedF32.None (value_at (mark 5)) 88 5 (λ u. refl) refl j;
+                voltage_v = value (float_of (f32_at t 55)) None (value_at (mark 3)) 62 3 (λ u. refl) refl j;
+                percent = value (float_of (f32_at t 64)) None (value_at (mark 4)) 75 4 (λ u. refl) refl j;
+                remaining_wh = value (float_of (f32_at t 73)) None (value_at (mark 5)) 88 5 (λ u. refl) refl j;
               };
-          gcs_heartbeat_ms = value OptionU32.Some OptionU32.None (instead (mark 6)) 101 6 (λ u. refl) refl j;
-          armed = value (flag_of (flag_at t 87)) OptionStampedBool.None (flag_with (mark 7)) 110 7 (λ u. refl) refl j;
-          landed = value (landed_of (landed_at t 93)) OptionStampedLandedState.None (landed_with (mark 8)) 120 8 (λ u. refl) refl j;
-          rc_ok = value (flag_of (flag_at t 99)) OptionStampedBool.None (flag_with (mark 9)) 130 9 (λ u. refl) refl j;
-          ekf_ok = value (flag_of (flag_at t 105)) OptionStampedBool.None (flag_with (mark 10)) 140 10 (λ u. refl) refl j;
+          gcs_heartbeat_ms = value Some None (instead (mark 6)) 101 6 (λ u. refl) refl j;
+          armed = value (flag_of (flag_at t 87)) None (flag_with (mark 7)) 110 7 (λ u. refl) refl j;
+          landed = value (landed_of (landed_at t 93)) None (landed_with (mark 8)) 120 8 (λ u. refl) refl j;
+          rc_ok = value (flag_of (flag_at t 99)) None (flag_with (mark 9)) 130 9 (λ u. refl) refl j;
+          ekf_ok = value (flag_of (flag_at t 105)) None (flag_with (mark 10)) 140 10 (λ u. refl) refl j;
         }
 
 pub frame_on : (given s : List ℕ) → frame_fault 3 104 (telemetry_on (elements_from 0 given 0 11) (bytes_from s 0 150)) ≡ 0

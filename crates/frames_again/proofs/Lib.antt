@@ -1,3 +1,2 @@
--- A frame in a slice of its own length, and the slots of a step's Decision.
+-- A frame in a slice of its own length.
 pub mod Filled
-pub mod Filed

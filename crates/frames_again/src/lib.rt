@@ -5,7 +5,7 @@ ghost use Rattle.std.specs.Prelude.{true, false, ◌≡◌};
 ghost use Rattle.supervisor.specs.Rules.{Rules, RaisedFits};
 ghost use Rattle.supervisor.specs.Settings.{base_settings, fence_site, fed_at};
 ghost use Rattle.supervisor.specs.Step.{step};
-ghost use Rattle.frame_decision.specs.DecisionFrame.{accepted, canonical};
+ghost use Rattle.frame_decision.specs.DecisionFrame.{accepted};
 ghost use Rattle.frame_state.specs.StateFrame.{read_state, state_frame};
 
 use config::Config;
@@ -35,9 +35,9 @@ pub fn raised_state_again(x: Supervisor) -> StateRead
     frame_state::read_state(&b, true)
 }
 
-// Any Decision, up to what its absent slots hold.
+// Any Decision.
 pub fn decision_again(d: Decision) -> DecisionRead
-    ensures { result ≡ accepted (canonical d) }
+    ensures { result ≡ accepted d }
 {
     let mut b = [0u8; 95];
     frame_decision::write_decision(&mut b, d);
@@ -50,7 +50,7 @@ pub fn stepped_state_again(x: Supervisor, cfg: Config, fence: Geofence, raw: Tel
     ensures accepted_again { cfg.keeps_raised ≡ false → Rules x → RaisedFits false x → result ≡ StateRead.Frame (step (base_settings cfg) x (fed_at (fence_site fence) raw)).supervisor }
     ensures read_again { result ≡ read_state false (state_frame false (step (base_settings cfg) x (fed_at (fence_site fence) raw)).supervisor) }
 {
-    let y = x.step(cfg, fence, raw);
+    let y = x.step(&cfg, &fence, &raw);
     let s = y.supervisor;
     let mut b = [0u8; 186];
     frame_state::write_state(&mut b, false, s);
@@ -67,7 +67,7 @@ pub fn stepped_raised_state_again(
     ensures accepted_again { Rules x → result ≡ StateRead.Frame (step (base_settings cfg) x (fed_at (fence_site fence) raw)).supervisor }
     ensures read_again { result ≡ read_state true (state_frame true (step (base_settings cfg) x (fed_at (fence_site fence) raw)).supervisor) }
 {
-    let y = x.step(cfg, fence, raw);
+    let y = x.step(&cfg, &fence, &raw);
     let s = y.supervisor;
     let mut b = [0u8; 194];
     frame_state::write_state(&mut b, true, s);
@@ -83,7 +83,7 @@ pub fn stepped_decision_again(
 ) -> DecisionRead
     ensures { result ≡ accepted (step (base_settings cfg) x (fed_at (fence_site fence) raw)).decision }
 {
-    let y = x.step(cfg, fence, raw);
+    let y = x.step(&cfg, &fence, &raw);
     let d = y.decision;
     let mut b = [0u8; 95];
     frame_decision::write_decision(&mut b, d);

@@ -21,8 +21,8 @@ pub extern "C" fn config_again(frame: &[u8], to: &mut [u8]) -> u32
     ensures to_after { to.new ≡ (config_again (read_config frame.now) to.old).slice }
 {
     match frame_config::read_config(frame) {
-        ConfigRead::Refused(n) => n as u32,
-        ConfigRead::Frame(c) => frame_config::write_config(to, c) as u32,
+        ConfigRead::Refused(n) => u32::from(n),
+        ConfigRead::Frame(c) => u32::from(frame_config::write_config(to, c)),
     }
 }
 
@@ -34,17 +34,16 @@ pub extern "C" fn fence_again(frame: &[u8], to: &mut [u8]) -> u32
 {
     let sent = frame_fence::read_fence(frame);
     if sent.refused != 0 {
-        return sent.refused as u32;
+        return u32::from(sent.refused);
     }
-    let corners = sent.corners;
-    frame_fence::write_fence(
+    u32::from(frame_fence::write_fence(
         to,
         sent.once_round,
         sent.count,
         sent.min_alt_m,
         sent.max_alt_m,
-        corners,
-    ) as u32
+        sent.corners,
+    ))
 }
 
 #[unsafe(no_mangle)]
@@ -53,8 +52,8 @@ pub extern "C" fn telemetry_again(frame: &[u8], to: &mut [u8]) -> u32
     ensures to_after { to.new ≡ (telemetry_again (read_telemetry frame.now) to.old).slice }
 {
     match frame_telemetry::read_telemetry(frame) {
-        TelemetryRead::Refused(n) => n as u32,
-        TelemetryRead::Frame(t) => frame_telemetry::write_telemetry(to, t) as u32,
+        TelemetryRead::Refused(n) => u32::from(n),
+        TelemetryRead::Frame(t) => u32::from(frame_telemetry::write_telemetry(to, t)),
     }
 }
 
@@ -65,10 +64,9 @@ pub extern "C" fn decision_again(frame: &[u8], to: &mut [u8]) -> u32
 {
     let read = frame_decision::read_decision(frame);
     if read.refused != 0 {
-        return read.refused as u32;
+        return u32::from(read.refused);
     }
-    let d = read.decision;
-    frame_decision::write_decision(to, d) as u32
+    u32::from(frame_decision::write_decision(to, read.decision))
 }
 
 #[unsafe(no_mangle)]
@@ -77,8 +75,8 @@ pub extern "C" fn state_again(frame: &[u8], to: &mut [u8]) -> u32
     ensures to_after { to.new ≡ (state_again (read_state false frame.now) to.old).slice }
 {
     match frame_state::read_state(frame, false) {
-        StateRead::Refused(n) => n as u32,
-        StateRead::Frame(x) => frame_state::write_state(to, false, x) as u32,
+        StateRead::Refused(n) => u32::from(n),
+        StateRead::Frame(x) => u32::from(frame_state::write_state(to, false, x)),
     }
 }
 
@@ -88,7 +86,7 @@ pub extern "C" fn refusal_again(frame: &[u8], to: &mut [u8]) -> u32
     ensures to_after { to.new ≡ (refusal_again (read_refusal frame.now) to.old).slice }
 {
     match frame_refusal::read_refusal(frame) {
-        RefusalRead::Refused(n) => n as u32,
-        RefusalRead::Frame(number) => frame_refusal::write_refusal(to, number) as u32,
+        RefusalRead::Refused(n) => u32::from(n),
+        RefusalRead::Frame(number) => u32::from(frame_refusal::write_refusal(to, number)),
     }
 }

@@ -5,8 +5,8 @@ ghost use Rattle.std.specs.Prelude.{◌≡◌, false, ◌+◌, ◌%◌, ◌<◌,
 ghost use Rattle.geometry.specs.Polygon.{place_held, normalize_ccw, held_polygon, polygon_new, geofence_new};
 ghost use Rattle.geometry.specs.Distance.{ring_of, vertex, side_length, side_lengths, edge_signed_distance_by, nearer_side, nearest, nearest_by, signed_distance, contains};
 
-use corners::{FenceError, FenceResult};
-use types::{OptionPoint2, Point2};
+use corners::FenceError;
+use types::Point2;
 
 #[derive(Clone, Copy)]
 pub struct ConvexPolygon {
@@ -19,7 +19,7 @@ pub struct ConvexPolygon {
 #[derive(Clone, Copy)]
 pub struct PolygonResult {
     pub poly: ConvexPolygon,
-    pub result: FenceResult,
+    pub result: Result<(), FenceError>,
 }
 
 #[derive(Clone, Copy)]
@@ -33,7 +33,7 @@ pub struct Geofence {
 #[derive(Clone, Copy)]
 pub struct GeofenceResult {
     pub fence: Geofence,
-    pub result: FenceResult,
+    pub result: Result<(), FenceError>,
 }
 
 // The length of each side, from the first corner's on; 0 in the unused places.
@@ -206,14 +206,14 @@ impl ConvexPolygon {
     }
 
     // None where the Rust panics.
-    pub fn vertex(self, i: usize) -> OptionPoint2
+    pub fn vertex(self, i: usize) -> Option<Point2>
         ensures { result ≡ vertex self i }
     {
         if i < 16 {
             let p = self.verts[i];
-            OptionPoint2::Some(p)
+            Some(p)
         } else {
-            OptionPoint2::None
+            None
         }
     }
 

@@ -1,14 +1,14 @@
 -- `failsafe_inside`: a row of points judged against one fence. Assumes nothing.
-use Rattle.std.specs.Prelude.{ℕ, zero, suc, ◌*◌, ◌/◌, ◌%◌, cond, List, [], ◌++◌, eqb, ltb, length, drop}
+use Rattle.std.specs.Prelude.{ℕ, zero, suc, ◌*◌, ◌/◌, ◌%◌, cond, List, [], ◌++◌, eqb, ltb, length, drop, Result, Ok, Err, ⊤}
 use Rattle.types.specs.declared.Point2.{Point2}
 use Rattle.wire.specs.Fields.{le_flag, le8}
-use Rattle.corners.specs.declared.FenceResult.{FenceResult}
 use Rattle.corners.specs.Acceptance.{fence_error_number}
 use Rattle.geometry.specs.declared.Geofence.{Geofence}
 use Rattle.geometry.specs.Distance.{ring_of}
 use Rattle.frame_fence.specs.FenceFrame.{point_at, read_fence, fence_of}
 use Rattle.inside.specs.declared.Inside.{Inside}
 use Rattle.inside.specs.Inside.{inside}
+use Rattle.corners.specs.declared.FenceError.{FenceError}
 
 -- the number returned, and the output at the end
 pub record InsideCall : Type 0 where
@@ -33,9 +33,9 @@ judged f points output =
     (record { number = 3; output = output })
 
 -- the fence rules on what was read
-abbrev pub accepted : FenceResult → Geofence → List ℕ → List ℕ → InsideCall
-accepted (FenceResult.Err e) fence points output = record { number = fence_error_number e; output = output }
-accepted FenceResult.Ok fence points output = judged (inside (ring_of fence.poly)) points output
+abbrev pub accepted : Result ⊤ FenceError → Geofence → List ℕ → List ℕ → InsideCall
+accepted (Err e) fence points output = record { number = fence_error_number e; output = output }
+accepted (Ok tt) fence points output = judged (inside (ring_of fence.poly)) points output
 
 -- fence frame, fence rules, points, output
 unfoldable pub inside_call : List ℕ → List ℕ → List ℕ → InsideCall

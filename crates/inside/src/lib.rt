@@ -9,7 +9,6 @@ ghost use Rattle.frame_fence.specs.FenceFrame.{point_at};
 ghost use Rattle.inside.specs.Inside.{inside, side_numbers, ring_numbers, before, short_at, negative_at, inside_by};
 ghost use Rattle.inside.specs.Call.{answer_bytes, answers, judged, inside_call};
 
-use corners::FenceResult;
 use geometry::ConvexPolygon;
 use types::Point2;
 
@@ -194,7 +193,7 @@ pub fn inside_call(fence: &[u8], points: &[u8], output: &mut [u8]) -> u32
     let fenced = made.fence;
     let poly = fenced.poly;
     match result {
-        FenceResult::Err(e) => e.number() as u32,
-        FenceResult::Ok => judge(poly, points, output),
+        Err(e) => e.number() as u32,
+        Ok(()) => judge(poly, points, output),
     }
 }

@@ -1,14 +1,12 @@
 -- Document 01's table holds, by computing each row. Assumes nothing.
+use Rattle.std.specs.Prelude.{Some, None, Ok, Err}
 use Prim.Native.Nat.{◌-◌, ◌^◌}
 use mathlib.Core.Bool.{true, false}
 use mathlib.Core.Path.{◌≡◌, refl, ap, sym, ◌∙◌}
 use lib.Ieee.{binary32, add, sub, mul, div, neg, lt, le, eq, of_bits, to_bits, of_int, round}
 use Rattle.types.specs.declared.Action.{Action}
 use Rattle.types.specs.declared.Reason.{Reason}
-use Rattle.types.specs.declared.OptionU32.{OptionU32}
-use Rattle.types.specs.declared.OptionPositionSample.{OptionPositionSample}
 use Rattle.corners.specs.declared.FenceError.{FenceError}
-use Rattle.corners.specs.declared.FenceResult.{FenceResult}
 use Rattle.types.specs.ActiveSet.{empty_set, set_request, higher_request, requested_action}
 use Rattle.time.specs.Time.{wrapping, wrapping_sub, age, fresh, hold_met}
 use Rattle.float32.specs.Sqrt.{square_root}
@@ -22,15 +20,15 @@ use Rattle.validate.specs.Glitch.{distance_between, within_jump, accept_sample, 
 use Rattle.arbiter.specs.Arbiter.{request, recover, apply_persistence, apply_feasibility, arbitrate}
 use Rattle.instances.specs.Table.{Table, whole_number, triangle, north_of, fence_distance, filtered_at, shown_at}
 
-age_wraps : age wrapping 5 4294967291 ≡ OptionU32.Some 10
+age_wraps : age wrapping 5 4294967291 ≡ Some 10
 unfolding wrapping_sub age
 age_wraps = refl
 
-age_longest : age wrapping (2 ^ 31 - 1) 0 ≡ OptionU32.Some 2147483647
+age_longest : age wrapping (2 ^ 31 - 1) 0 ≡ Some 2147483647
 unfolding wrapping_sub age
 age_longest = refl
 
-age_absent : age wrapping (2 ^ 31) 0 ≡ OptionU32.None
+age_absent : age wrapping (2 ^ 31) 0 ≡ None
 unfolding wrapping_sub age
 age_absent = refl
 
@@ -73,11 +71,11 @@ fence_outside : fence_distance 501 ≡ neg (whole_number 1)
 unfolding add sub mul div neg lt of_bits round square_root is_finite fabs eq polygon_new geofence_new area_term polygon_area side_length edge_signed_distance_by signed_distance default_fence
 fence_outside = refl
 
-area_enough : polygon_fault false 3 (triangle (whole_number 20)) ≡ FenceResult.Ok
+area_enough : polygon_fault false 3 (triangle (whole_number 20)) ≡ Ok tt
 unfolding add sub mul lt eq neg of_bits round is_finite fabs corner_fault same_point flat_turn cross2 mixed_turns area_term polygon_area polygon_tests
 area_enough = refl
 
-area_too_small : polygon_fault false 3 (triangle (decimal 199 10)) ≡ FenceResult.Err FenceError.AreaTooSmall
+area_too_small : polygon_fault false 3 (triangle (decimal 199 10)) ≡ Err FenceError.AreaTooSmall
 unfolding add sub mul lt eq neg of_bits round is_finite fabs corner_fault same_point flat_turn cross2 mixed_turns area_term polygon_area polygon_tests
 area_too_small = refl
 
@@ -85,11 +83,11 @@ names_ekf : requested_action (set_request (set_request empty_set Reason.GpsLost 
 unfolding set_request higher_request requested_action
 names_ekf = refl
 
-jump_kept : filtered_at 55 ≡ OptionPositionSample.Some (north_of 2000 55)
+jump_kept : filtered_at 55 ≡ Some (north_of 2000 55)
 unfolding add sub mul div neg le lt eq of_bits of_int round wrapping_sub age square_root distance_between within_jump accept_sample apply_glitch_filter
 jump_kept = refl
 
-jump_refused : filtered_at 56 ≡ OptionPositionSample.None
+jump_refused : filtered_at 56 ≡ None
 unfolding add sub mul div neg le lt eq of_bits of_int round wrapping_sub age square_root distance_between within_jump accept_sample apply_glitch_filter
 jump_refused = refl
 

@@ -1,6 +1,6 @@
 -- Small instances beside the table, about the definitions: each refuses a misreading that code and definition could share. Assumes nothing.
 -- The quotations are of document 01; "the oracle [decides] all else", so where it is silent the Rust's line is given.
-use Rattle.std.specs.Prelude.{ℕ, Bool, true, false, cond, List, [], ◌∷◌, map, ◌≡◌, leb, Float}
+use Rattle.std.specs.Prelude.{ℕ, Bool, true, false, cond, List, [], ◌∷◌, map, ◌≡◌, leb, Float, Option, Some, None, Result, Ok, Err, ⊤}
 use Rattle.std.specs.Float.{binary32}
 use Rattle.std.specs.Float.Ieee.{neg, of_bits}
 use Rattle.types.specs.declared.Action.{Action}
@@ -8,23 +8,14 @@ use Rattle.types.specs.declared.Reason.{Reason}
 use Rattle.types.specs.declared.Point2.{Point2}
 use Rattle.types.specs.declared.Vec3.{Vec3}
 use Rattle.types.specs.declared.LandedState.{LandedState}
-use Rattle.types.specs.declared.OptionU32.{OptionU32}
-use Rattle.types.specs.declared.OptionF32.{OptionF32}
-use Rattle.types.specs.declared.OptionGpsSample.{OptionGpsSample}
-use Rattle.types.specs.declared.OptionPositionSample.{OptionPositionSample}
-use Rattle.types.specs.declared.OptionStampedF32.{OptionStampedF32}
-use Rattle.types.specs.declared.OptionStampedBool.{OptionStampedBool}
-use Rattle.types.specs.declared.OptionStampedLandedState.{OptionStampedLandedState}
 use Rattle.types.specs.declared.Telemetry.{Telemetry}
 use Rattle.types.specs.ActiveSet.{empty_set, set_request, requested_action}
 use Rattle.time.specs.Time.{wrapping}
 use Rattle.corners.specs.declared.FenceError.{FenceError}
-use Rattle.corners.specs.declared.FenceResult.{FenceResult}
 use Rattle.corners.specs.Acceptance.{fence_error_number, polygon_fault}
 use Rattle.geometry.specs.Distance.{ring_of, edge_signed_distance, contains, nearest}
 use Rattle.config.specs.declared.Config.{Config}
 use Rattle.config.specs.declared.ConfigError.{ConfigError}
-use Rattle.config.specs.declared.ConfigResult.{ConfigResult}
 use Rattle.config.specs.Config.{config_error_number, check_config}
 use Rattle.config.specs.Default.{default_config, default_fence}
 use Rattle.energy.specs.Energy.{rtl_energy}
@@ -45,34 +36,36 @@ use Rattle.supervisor.specs.declared.Stepped.{Stepped}
 use Rattle.supervisor.specs.Settings.{base_settings, fence_site, fed_at}
 use Rattle.supervisor.specs.Step.{step}
 use Rattle.instances.specs.Table.{whole_number, at, north_of, stored_at_origin}
+use Rattle.types.specs.declared.Stamped.{Stamped}
+use Rattle.types.specs.declared.PositionSample.{PositionSample}
 
 -- ---- readings at 2000: a stamp of 1000 is fresh, one of 999 is stale
 
-abbrev pub disarm_by : OptionStampedBool → Bool
+abbrev pub disarm_by : Option (Stamped Bool) → Bool
 disarm_by armed = confirmed_disarm wrapping 2000 armed 1000
 
 -- a position is fresh from the stamp 1500 on
-abbrev pub valid_by : OptionPositionSample → OptionStampedBool → Bool
+abbrev pub valid_by : Option PositionSample → Option (Stamped Bool) → Bool
 valid_by position ekf = position_valid wrapping 2000 position ekf 500 1000
 
-abbrev pub sample_of : ℕ → OptionPositionSample
-sample_of t = OptionPositionSample.Some (north_of t 0)
+abbrev pub sample_of : ℕ → Option PositionSample
+sample_of t = Some (north_of t 0)
 
-abbrev pub gate_by : OptionStampedBool → OptionStampedLandedState → Action → Bool
+abbrev pub gate_by : Option (Stamped Bool) → Option (Stamped LandedState) → Action → Bool
 gate_by armed landed requested = gate_open wrapping 2000 armed landed 1000 requested
 
 -- Land is requested, and it is armed
 abbrev pub gate_on : LandedState → Bool
-gate_on l = gate_by (OptionStampedBool.Some 1000 true) (OptionStampedLandedState.Some 1000 l) Action.Land
+gate_on l = gate_by (Some (record { t_ms = 1000; value = true })) (Some (record { t_ms = 1000; value = l })) Action.Land
 
 -- what the filter makes of a sample 1000 m away, with one stored at home at 1000
-abbrev pub far_at : ℕ → OptionPositionSample
-far_at now = (apply_glitch_filter wrapping stored_at_origin now (OptionPositionSample.Some (north_of now 1000)) (whole_number 25)).position
+abbrev pub far_at : ℕ → Option PositionSample
+far_at now = (apply_glitch_filter wrapping stored_at_origin now (Some (north_of now 1000)) (whole_number 25)).position
 
 -- ---- the arbiter's answers
 
 -- an action is shown, and the recovery began at a reading or has not begun
-abbrev pub showing : Reason → Action → OptionU32 → Arbitrated
+abbrev pub showing : Reason → Action → Option ℕ → Arbitrated
 showing r a since =
     record {
       state = record { prev_output = a; prev_reason = r; recovery_since_ms = since };
@@ -81,7 +74,7 @@ showing r a since =
 
 -- what is made of an action
 abbrev pub made_of : Action → Bool → Arbitrated
-made_of a valid = apply_feasibility (showing Reason.RcLost a (OptionU32.Some 1000)) valid
+made_of a valid = apply_feasibility (showing Reason.RcLost a (Some 1000)) valid
 
 -- ---- energy
 
@@ -168,7 +161,7 @@ keeping k =
       keeps_raised = default_config.keeps_raised;
     }
 
-abbrev pub judged_at : ℕ → ConfigResult
+abbrev pub judged_at : ℕ → Result ⊤ ConfigError
 judged_at k = check_config (keeping k) (keep k 8 true false) (whole_number 5) (whole_number 120)
 
 -- ---- corners
@@ -187,10 +180,10 @@ flat_and_dented =
 -- ---- states of the supervisor
 
 abbrev pub since : ℕ → Timer
-since t = record { since_ms = OptionU32.Some t }
+since t = record { since_ms = Some t }
 
 -- every other timer runs, both latches are set, and some of what a kind 11 configuration keeps is raised
-abbrev pub running : OptionU32 → TriggerState
+abbrev pub running : Option ℕ → TriggerState
 running link =
     record {
       battery_critical_latched = true;
@@ -225,7 +218,7 @@ running link =
       raised = record { gps_degraded = true; gps_lost = false; ekf_unhealthy = true; fence_breach = false; altitude_min = true; battery_warn = false; battery_low = true; energy_rtl_marginal = false };
     }
 
-abbrev pub shown_last : Action → Reason → OptionU32 → ArbiterState
+abbrev pub shown_last : Action → Reason → Option ℕ → ArbiterState
 shown_last a r recovery = record { prev_output = a; prev_reason = r; recovery_since_ms = recovery }
 
 -- a sample is stored, or none
@@ -233,17 +226,17 @@ abbrev pub stored : GlitchState
 stored = record { last_accepted = sample_of 80; reject_streak = 1 }
 
 abbrev pub nothing : GlitchState
-nothing = record { last_accepted = OptionPositionSample.None; reject_streak = 0 }
+nothing = record { last_accepted = None; reject_streak = 0 }
 
 -- the last sound reading was 100
-abbrev pub after100 : TriggerState → ArbiterState → OptionU32 → GlitchState → ℕ → ℕ → Supervisor
+abbrev pub after100 : TriggerState → ArbiterState → Option ℕ → GlitchState → ℕ → ℕ → Supervisor
 after100 triggers arbiter hold glitch epoch streak =
     record {
       triggers = triggers;
       arbiter = arbiter;
       disarm = record { hold_since_ms = hold };
       glitch = glitch;
-      last_now = OptionU32.Some 100;
+      last_now = Some 100;
       epoch_start = epoch;
       backwards_streak = streak;
       initialized = true;
@@ -251,54 +244,54 @@ after100 triggers arbiter hold glitch epoch streak =
 
 -- Warn was shown, all is under way, and so many faults in a row
 abbrev pub under_way : ℕ → Supervisor
-under_way streak = after100 (running (OptionU32.Some 90)) (shown_last Action.Warn Reason.BatteryWarn (OptionU32.Some 95)) (OptionU32.Some 99) stored 7 streak
+under_way streak = after100 (running (Some 90)) (shown_last Action.Warn Reason.BatteryWarn (Some 95)) (Some 99) stored 7 streak
 
 -- nothing is read but the clock, at 50, and armed
-abbrev pub reading : OptionStampedBool → Telemetry
+abbrev pub reading : Option (Stamped Bool) → Telemetry
 reading armed =
     record {
       now_ms = 50;
-      position = OptionPositionSample.None;
-      gps = OptionGpsSample.None;
-      battery = record { voltage_v = OptionStampedF32.None; percent = OptionStampedF32.None; remaining_wh = OptionStampedF32.None };
-      gcs_heartbeat_ms = OptionU32.None;
+      position = None;
+      gps = None;
+      battery = record { voltage_v = None; percent = None; remaining_wh = None };
+      gcs_heartbeat_ms = None;
       armed = armed;
-      landed = OptionStampedLandedState.None;
-      rc_ok = OptionStampedBool.None;
-      ekf_ok = OptionStampedBool.None;
+      landed = None;
+      rc_ok = None;
+      ekf_ok = None;
     }
 
 -- a step at 50, which is one more fault
-abbrev pub fault_after : ℕ → OptionStampedBool → Stepped
+abbrev pub fault_after : ℕ → Option (Stamped Bool) → Stepped
 fault_after streak armed = step (base_settings default_config) (under_way streak) (fed_at (fence_site default_fence.fence) (reading armed))
 
 pub record SmallInstances : Type 0 where
   -- "Confirmed disarm is a fresh armed reading of false."
-  pub disarm_by_fresh_false : disarm_by (OptionStampedBool.Some 1000 false) ≡ true
-  pub no_disarm_by_stale_false : disarm_by (OptionStampedBool.Some 999 false) ≡ false
-  pub no_disarm_by_fresh_true : disarm_by (OptionStampedBool.Some 1000 true) ≡ false
-  pub no_disarm_by_stale_true : disarm_by (OptionStampedBool.Some 999 true) ≡ false
-  pub no_disarm_by_none : disarm_by OptionStampedBool.None ≡ false
+  pub disarm_by_fresh_false : disarm_by (Some (record { t_ms = 1000; value = false })) ≡ true
+  pub no_disarm_by_stale_false : disarm_by (Some (record { t_ms = 999; value = false })) ≡ false
+  pub no_disarm_by_fresh_true : disarm_by (Some (record { t_ms = 1000; value = true })) ≡ false
+  pub no_disarm_by_stale_true : disarm_by (Some (record { t_ms = 999; value = true })) ≡ false
+  pub no_disarm_by_none : disarm_by None ≡ false
   -- position_valid: `is_fresh(now_ms, pos.t_ms, cfg.pos_fresh_ms)` and `is_fresh(now_ms, e.t_ms, cfg.status_fresh_ms) && e.value`; either half alone is none
-  pub valid_by_both : valid_by (sample_of 1500) (OptionStampedBool.Some 1000 true) ≡ true
-  pub not_by_position_alone : valid_by (sample_of 1500) OptionStampedBool.None ≡ false
-  pub not_by_ekf_false : valid_by (sample_of 1500) (OptionStampedBool.Some 1000 false) ≡ false
-  pub not_by_ekf_stale : valid_by (sample_of 1500) (OptionStampedBool.Some 999 true) ≡ false
-  pub not_by_ekf_alone : valid_by OptionPositionSample.None (OptionStampedBool.Some 1000 true) ≡ false
-  pub not_by_position_stale : valid_by (sample_of 1499) (OptionStampedBool.Some 1000 true) ≡ false
+  pub valid_by_both : valid_by (sample_of 1500) (Some (record { t_ms = 1000; value = true })) ≡ true
+  pub not_by_position_alone : valid_by (sample_of 1500) None ≡ false
+  pub not_by_ekf_false : valid_by (sample_of 1500) (Some (record { t_ms = 1000; value = false })) ≡ false
+  pub not_by_ekf_stale : valid_by (sample_of 1500) (Some (record { t_ms = 999; value = true })) ≡ false
+  pub not_by_ekf_alone : valid_by None (Some (record { t_ms = 1000; value = true })) ≡ false
+  pub not_by_position_stale : valid_by (sample_of 1499) (Some (record { t_ms = 1000; value = true })) ≡ false
   -- disarm.rs: `fresh_landed(now_ms, t.landed, cfg) == Some(LandedState::OnGround)`
   pub open_on_ground : gate_on LandedState.OnGround ≡ true
   pub shut_in_landing : gate_on LandedState.Landing ≡ false
   pub shut_in_takeoff : gate_on LandedState.Takeoff ≡ false
   pub shut_in_air : gate_on LandedState.InAir ≡ false
   pub shut_in_undefined : gate_on LandedState.Undefined ≡ false
-  pub shut_by_stale_ground : gate_by (OptionStampedBool.Some 1000 true) (OptionStampedLandedState.Some 999 LandedState.OnGround) Action.Land ≡ false
-  pub shut_by_no_ground : gate_by (OptionStampedBool.Some 1000 true) OptionStampedLandedState.None Action.Land ≡ false
+  pub shut_by_stale_ground : gate_by (Some (record { t_ms = 1000; value = true })) (Some (record { t_ms = 999; value = LandedState.OnGround })) Action.Land ≡ false
+  pub shut_by_no_ground : gate_by (Some (record { t_ms = 1000; value = true })) None Action.Land ≡ false
   -- disarm.rs: `Some(a) if is_fresh(now_ms, a.t_ms, cfg.status_fresh_ms) && a.value`
-  pub shut_by_disarmed : gate_by (OptionStampedBool.Some 1000 false) (OptionStampedLandedState.Some 1000 LandedState.OnGround) Action.Land ≡ false
-  pub shut_by_stale_armed : gate_by (OptionStampedBool.Some 999 true) (OptionStampedLandedState.Some 1000 LandedState.OnGround) Action.Land ≡ false
+  pub shut_by_disarmed : gate_by (Some (record { t_ms = 1000; value = false })) (Some (record { t_ms = 1000; value = LandedState.OnGround })) Action.Land ≡ false
+  pub shut_by_stale_armed : gate_by (Some (record { t_ms = 999; value = true })) (Some (record { t_ms = 1000; value = LandedState.OnGround })) Action.Land ≡ false
   -- "The gate uses the requested one": disarm.rs: `requested.rank() < Action::Land.rank()`
-  pub shut_by_return : gate_by (OptionStampedBool.Some 1000 true) (OptionStampedLandedState.Some 1000 LandedState.OnGround) Action.ReturnToLaunch ≡ false
+  pub shut_by_return : gate_by (Some (record { t_ms = 1000; value = true })) (Some (record { t_ms = 1000; value = LandedState.OnGround })) Action.ReturnToLaunch ≡ false
   -- "FenceError in declared order, TooFewVertices to BadAltitudes | 10 to 18"
   pub fence_refusals :
       map fence_error_number
@@ -316,47 +309,47 @@ pub record SmallInstances : Type 0 where
   -- "Order: cells 1 to 14; capacity; eight finite values; speeds; powers; percentages; four durations 1 to 600,000; home; h_rtl."
   pub config_order :
       map judged_at (0 ∷ 1 ∷ 2 ∷ 3 ∷ 4 ∷ 5 ∷ 6 ∷ 7 ∷ 8 ∷ 9 ∷ [])
-      ≡ ConfigResult.Err ConfigError.BadCellCount
-      ∷ ConfigResult.Err ConfigError.BadCapacity
-      ∷ ConfigResult.Err ConfigError.NonFiniteParam
-      ∷ ConfigResult.Err ConfigError.NonPositiveSpeed
-      ∷ ConfigResult.Err ConfigError.NegativePower
-      ∷ ConfigResult.Err ConfigError.BadThresholdOrder
-      ∷ ConfigResult.Err ConfigError.DurationOutOfRange
-      ∷ ConfigResult.Err ConfigError.HomeOutsideFence
-      ∷ ConfigResult.Err ConfigError.RtlAltOutsideFence
-      ∷ ConfigResult.Ok
+      ≡ Err ConfigError.BadCellCount
+      ∷ Err ConfigError.BadCapacity
+      ∷ Err ConfigError.NonFiniteParam
+      ∷ Err ConfigError.NonPositiveSpeed
+      ∷ Err ConfigError.NegativePower
+      ∷ Err ConfigError.BadThresholdOrder
+      ∷ Err ConfigError.DurationOutOfRange
+      ∷ Err ConfigError.HomeOutsideFence
+      ∷ Err ConfigError.RtlAltOutsideFence
+      ∷ (Ok tt)
       ∷ []
   -- "Float operations in the Rust's order": `r - rtl_wh - cfg.reserve_wh`; any other order gives 4109D555. Fifty metres from home and ten up, 20 Wh left.
   pub energy_away :
-      rtl_energy default_config (place (whole_number 30) (whole_number 40) (neg (whole_number 10))) (OptionF32.Some (whole_number 20))
+      rtl_energy default_config (place (whole_number 30) (whole_number 40) (neg (whole_number 10))) (Some (whole_number 20))
       ≡ record {
         rtl_wh = bits 0x4058_AAAB;
         land_wh = bits 0x3F0E_38E4;
         reserve_wh = whole_number 8;
-        remaining_wh = OptionF32.Some (whole_number 20);
-        margin_wh = OptionF32.Some (bits 0x4109_D556);
+        remaining_wh = Some (whole_number 20);
+        margin_wh = Some (bits 0x4109_D556);
         insufficient_for_landing = false;
       }
   -- "Altitude is −d, so d = +0 gives −0", and of the listing "rtl_wh 55 55 55 40; land_wh 00 00 00 80; reserve 00 00 00 41"
   pub energy_at_home :
-      rtl_energy default_config (place (whole_number 0) (whole_number 0) (whole_number 0)) OptionF32.None
+      rtl_energy default_config (place (whole_number 0) (whole_number 0) (whole_number 0)) None
       ≡ record {
         rtl_wh = bits 0x4055_5555;
         land_wh = bits 0x8000_0000;
         reserve_wh = bits 0x4100_0000;
-        remaining_wh = OptionF32.None;
-        margin_wh = OptionF32.None;
+        remaining_wh = None;
+        margin_wh = None;
         insufficient_for_landing = false;
       }
   -- "puts Land for Hold or ReturnToLaunch", for lack of position; arbiter.rs: `(Action::Land, Reason::PositionInvalid)`
-  pub hold_without_position : made_of Action.Hold false ≡ showing Reason.PositionInvalid Action.Land OptionU32.None
-  pub return_without_position : made_of Action.ReturnToLaunch false ≡ showing Reason.PositionInvalid Action.Land OptionU32.None
-  pub nominal_without_position : made_of Action.Nominal false ≡ showing Reason.RcLost Action.Nominal (OptionU32.Some 1000)
-  pub warn_without_position : made_of Action.Warn false ≡ showing Reason.RcLost Action.Warn (OptionU32.Some 1000)
-  pub land_without_position : made_of Action.Land false ≡ showing Reason.RcLost Action.Land (OptionU32.Some 1000)
-  pub hold_with_position : made_of Action.Hold true ≡ showing Reason.RcLost Action.Hold (OptionU32.Some 1000)
-  pub return_with_position : made_of Action.ReturnToLaunch true ≡ showing Reason.RcLost Action.ReturnToLaunch (OptionU32.Some 1000)
+  pub hold_without_position : made_of Action.Hold false ≡ showing Reason.PositionInvalid Action.Land None
+  pub return_without_position : made_of Action.ReturnToLaunch false ≡ showing Reason.PositionInvalid Action.Land None
+  pub nominal_without_position : made_of Action.Nominal false ≡ showing Reason.RcLost Action.Nominal (Some 1000)
+  pub warn_without_position : made_of Action.Warn false ≡ showing Reason.RcLost Action.Warn (Some 1000)
+  pub land_without_position : made_of Action.Land false ≡ showing Reason.RcLost Action.Land (Some 1000)
+  pub hold_with_position : made_of Action.Hold true ≡ showing Reason.RcLost Action.Hold (Some 1000)
+  pub return_with_position : made_of Action.ReturnToLaunch true ≡ showing Reason.RcLost Action.ReturnToLaunch (Some 1000)
   -- "Wanted action: the requested one, or Land under a latch, battery named first."
   pub wanted_unlatched : wanted (request Reason.RcLost Action.ReturnToLaunch) false false ≡ request Reason.RcLost Action.ReturnToLaunch
   pub wanted_by_battery : wanted (request Reason.RcLost Action.ReturnToLaunch) true false ≡ request Reason.BatteryCritical Action.Land
@@ -364,24 +357,24 @@ pub record SmallInstances : Type 0 where
   pub wanted_by_both : wanted (request Reason.RcLost Action.ReturnToLaunch) true true ≡ request Reason.BatteryCritical Action.Land
   -- "A clock fault leaves last_now as it was", "and moves no timer"; "Every fault resets the disarm hold."
   pub second_fault_leaves :
-      (fault_after 1 OptionStampedBool.None).supervisor
-      ≡ after100 (running (OptionU32.Some 90)) (shown_last Action.Warn Reason.BatteryWarn (OptionU32.Some 95)) OptionU32.None stored 7 2
+      (fault_after 1 None).supervisor
+      ≡ after100 (running (Some 90)) (shown_last Action.Warn Reason.BatteryWarn (Some 95)) None stored 7 2
   -- "also at every third in a row, which clears the link timer, recovery start and filter, sets epoch_start to the reading and begins the count anew"
   pub third_fault_leaves :
-      (fault_after 2 OptionStampedBool.None).supervisor
-      ≡ after100 (running OptionU32.None) (shown_last Action.Warn Reason.BatteryWarn OptionU32.None) OptionU32.None nothing 50 0
+      (fault_after 2 None).supervisor
+      ≡ after100 (running None) (shown_last Action.Warn Reason.BatteryWarn None) None nothing 50 0
   -- "It answers Nominal even on a fault, and resets neither filter nor clock."
   pub disarm_leaves :
-      (fault_after 1 (OptionStampedBool.Some 50 false)).supervisor
-      ≡ after100 fresh_triggers (shown_last Action.Nominal Reason.None OptionU32.None) OptionU32.None stored 7 2
-  pub disarm_answers : (fault_after 1 (OptionStampedBool.Some 50 false)).decision.action ≡ Action.Nominal
-  pub disarm_names_fault : (fault_after 1 (OptionStampedBool.Some 50 false)).decision.clock_fault ≡ true
+      (fault_after 1 (Some (record { t_ms = 50; value = false }))).supervisor
+      ≡ after100 fresh_triggers (shown_last Action.Nominal Reason.None None) None stored 7 2
+  pub disarm_answers : (fault_after 1 (Some (record { t_ms = 50; value = false }))).decision.action ≡ Action.Nominal
+  pub disarm_names_fault : (fault_after 1 (Some (record { t_ms = 50; value = false }))).decision.clock_fault ≡ true
   -- "highest rank, then highest display_priority": the battery's is 18 and the energy's 17, where their indices are 16 and 18
   pub names_battery :
       requested_action (set_request (set_request empty_set Reason.BatteryCritical Action.Land) Reason.EnergyRtlInfeasible Action.Land).reqs
       ≡ request Reason.BatteryCritical Action.Land
   -- "any turn under 0.0001 in size; mixed turn signs", in this order
-  pub flat_before_convex : polygon_fault false 6 flat_and_dented ≡ FenceResult.Err FenceError.CollinearEdge
+  pub flat_before_convex : polygon_fault false 6 flat_and_dented ≡ Err FenceError.CollinearEdge
   -- "Inside means at least 0."
   pub inside_at_zero : contains (ring_of default_fence.fence.poly) (at (whole_number 500) (whole_number 0)) ≡ true
   -- document 02, L1: "At equal distances the lower number is given": home is 500 m from all four sides
@@ -389,14 +382,14 @@ pub record SmallInstances : Type 0 where
   -- "below 1e-6 length gives −1": a side of 1e-7 m; by its line the point would be 5 m inside
   pub short_side : edge_signed_distance (at (neg (whole_number 5)) (whole_number 0)) (at (whole_number 0) (whole_number 0), at (whole_number 0) (bits 0x33D6_BF95)) ≡ neg (whole_number 1)
   -- triggers.rs: `.map(|hb| age_ms(now_ms, hb).unwrap_or(u32::MAX))`: a heartbeat from ahead is as good as none
-  pub heartbeat_ahead : gcs_age wrapping 1000 (OptionU32.Some 1001) ≡ 0xFFFF_FFFF
-  pub heartbeat_none : gcs_age wrapping 1000 OptionU32.None ≡ 0xFFFF_FFFF
+  pub heartbeat_ahead : gcs_age wrapping 1000 (Some 1001) ≡ 0xFFFF_FFFF
+  pub heartbeat_none : gcs_age wrapping 1000 None ≡ 0xFFFF_FFFF
   -- triggers.rs: `let rc_bad = cfg.rc_required && ..`
   pub rc_required : (rc_link wrapping cleared cleared 1000 false (keeping 9)).lost ≡ true
   pub rc_not_required : (rc_link wrapping cleared cleared 1000 false (keeping 10)).lost ≡ false
   -- "Latches last until confirmed disarm.": the margin is good again
-  pub energy_latch_stays : (energy wrapping (running OptionU32.None) 1000 (OptionF32.Some (whole_number 20)) default_config).latched ≡ true
-  pub energy_latch_asks : (energy wrapping (running OptionU32.None) 1000 (OptionF32.Some (whole_number 20)) default_config).infeasible ≡ true
+  pub energy_latch_stays : (energy wrapping (running None) 1000 (Some (whole_number 20)) default_config).latched ≡ true
+  pub energy_latch_asks : (energy wrapping (running None) 1000 (Some (whole_number 20)) default_config).infeasible ≡ true
   -- "age absent or over 2000": at 2000 the jump is still measured
-  pub gap_of_2000 : far_at 3000 ≡ OptionPositionSample.None
-  pub gap_of_2001 : far_at 3001 ≡ OptionPositionSample.Some (north_of 3001 1000)
+  pub gap_of_2000 : far_at 3000 ≡ None
+  pub gap_of_2001 : far_at 3001 ≡ Some (north_of 3001 1000)

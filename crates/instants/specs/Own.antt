@@ -1,42 +1,40 @@
 -- Document 02, L7: the instants that a state holds, and the stamps that telemetry has. Assumes nothing.
-use Rattle.std.specs.Prelude.{ℕ}
-use Rattle.types.specs.declared.OptionU32.{OptionU32}
-use Rattle.types.specs.declared.OptionStampedF32.{OptionStampedF32}
-use Rattle.types.specs.declared.OptionStampedBool.{OptionStampedBool}
-use Rattle.types.specs.declared.OptionStampedLandedState.{OptionStampedLandedState}
-use Rattle.types.specs.declared.OptionPositionSample.{OptionPositionSample}
-use Rattle.types.specs.declared.OptionGpsSample.{OptionGpsSample}
+use Rattle.std.specs.Prelude.{ℕ, Option, Some, None, Float, Bool}
 use Rattle.types.specs.declared.Telemetry.{Telemetry}
 use Rattle.timers.specs.Timer.{since_or}
 use Rattle.supervisor.specs.declared.Supervisor.{Supervisor}
 use Rattle.instants.specs.Retimed.{timer_of, Instants, Stamps}
+use Rattle.types.specs.declared.Stamped.{Stamped}
+use Rattle.types.specs.declared.LandedState.{LandedState}
+use Rattle.types.specs.declared.PositionSample.{PositionSample}
+use Rattle.types.specs.declared.GpsSample.{GpsSample}
 
 -- ---- the stamp of a reading that may be absent
 
-abbrev pub position_stamp : OptionPositionSample → OptionU32
-position_stamp OptionPositionSample.None = OptionU32.None
-position_stamp (OptionPositionSample.Some p) = OptionU32.Some p.t_ms
+abbrev pub position_stamp : Option PositionSample → Option ℕ
+position_stamp None = None
+position_stamp (Some p) = Some p.t_ms
 
-abbrev pub gps_stamp : OptionGpsSample → OptionU32
-gps_stamp OptionGpsSample.None = OptionU32.None
-gps_stamp (OptionGpsSample.Some g) = OptionU32.Some g.t_ms
+abbrev pub gps_stamp : Option GpsSample → Option ℕ
+gps_stamp None = None
+gps_stamp (Some g) = Some g.t_ms
 
-abbrev pub value_stamp : OptionStampedF32 → OptionU32
-value_stamp OptionStampedF32.None = OptionU32.None
-value_stamp (OptionStampedF32.Some t v) = OptionU32.Some t
+abbrev pub value_stamp : Option (Stamped Float) → Option ℕ
+value_stamp None = None
+value_stamp (Some r) = Some r.t_ms
 
-abbrev pub flag_stamp : OptionStampedBool → OptionU32
-flag_stamp OptionStampedBool.None = OptionU32.None
-flag_stamp (OptionStampedBool.Some t v) = OptionU32.Some t
+abbrev pub flag_stamp : Option (Stamped Bool) → Option ℕ
+flag_stamp None = None
+flag_stamp (Some r) = Some r.t_ms
 
-abbrev pub landed_stamp : OptionStampedLandedState → OptionU32
-landed_stamp OptionStampedLandedState.None = OptionU32.None
-landed_stamp (OptionStampedLandedState.Some t v) = OptionU32.Some t
+abbrev pub landed_stamp : Option (Stamped LandedState) → Option ℕ
+landed_stamp None = None
+landed_stamp (Some r) = Some r.t_ms
 
 -- ---- all of them
 
 -- 0 for one that is not there
-abbrev pub own : OptionU32 → ℕ
+abbrev pub own : Option ℕ → ℕ
 own o = since_or o 0
 
 -- of a state

@@ -1,13 +1,7 @@
 -- Document 02, L7: a supervisor and telemetry with other instants, and a configuration with other durations. Assumes nothing.
 -- All else, and which readings and timers are there, is the same. An instant is any number: nothing here bounds it.
-use Rattle.std.specs.Prelude.{ℕ, Bool, not, ◌&&◌, cond, eqb}
-use Rattle.types.specs.declared.OptionU32.{OptionU32}
-use Rattle.types.specs.declared.OptionStampedF32.{OptionStampedF32}
-use Rattle.types.specs.declared.OptionStampedBool.{OptionStampedBool}
-use Rattle.types.specs.declared.OptionStampedLandedState.{OptionStampedLandedState}
+use Rattle.std.specs.Prelude.{ℕ, Bool, not, ◌&&◌, cond, eqb, Option, Some, None, Float}
 use Rattle.types.specs.declared.PositionSample.{PositionSample}
-use Rattle.types.specs.declared.OptionPositionSample.{OptionPositionSample}
-use Rattle.types.specs.declared.OptionGpsSample.{OptionGpsSample}
 use Rattle.types.specs.declared.Telemetry.{Telemetry}
 use Rattle.config.specs.declared.Config.{Config}
 use Rattle.validate.specs.declared.GlitchState.{GlitchState}
@@ -19,11 +13,14 @@ use Rattle.arbiter.specs.declared.ArbiterState.{ArbiterState}
 use Rattle.disarm.specs.declared.DisarmGate.{DisarmGate}
 use Rattle.supervisor.specs.declared.Supervisor.{Supervisor}
 use Rattle.supervisor.specs.declared.Stepped.{Stepped}
+use Rattle.types.specs.declared.Stamped.{Stamped}
+use Rattle.types.specs.declared.LandedState.{LandedState}
+use Rattle.types.specs.declared.GpsSample.{GpsSample}
 
 -- an instant in the place of a held one
-abbrev pub instead : ℕ → OptionU32 → OptionU32
-instead x OptionU32.None = OptionU32.None
-instead x (OptionU32.Some y) = OptionU32.Some x
+abbrev pub instead : ℕ → Option ℕ → Option ℕ
+instead x None = None
+instead x (Some y) = Some x
 
 -- ---- the timers
 
@@ -167,9 +164,9 @@ abbrev pub sample_at : ℕ → PositionSample → PositionSample
 sample_at x p = record { t_ms = x; pos = p.pos; vel = p.vel }
 
 -- and one that may be absent
-abbrev pub position_at : ℕ → OptionPositionSample → OptionPositionSample
-position_at x OptionPositionSample.None = OptionPositionSample.None
-position_at x (OptionPositionSample.Some p) = OptionPositionSample.Some (sample_at x p)
+abbrev pub position_at : ℕ → Option PositionSample → Option PositionSample
+position_at x None = None
+position_at x (Some p) = Some (sample_at x p)
 
 -- the filter, the arbiter and the gate
 abbrev pub glitch_at : ℕ → GlitchState → GlitchState
@@ -216,21 +213,21 @@ pub record Stamps : Type 0 where
   pub ekf : ℕ
 
 -- readings with another stamp
-abbrev pub gps_at : ℕ → OptionGpsSample → OptionGpsSample
-gps_at x OptionGpsSample.None = OptionGpsSample.None
-gps_at x (OptionGpsSample.Some g) = OptionGpsSample.Some (record { t_ms = x; fix = g.fix; sats = g.sats; hdop = g.hdop })
+abbrev pub gps_at : ℕ → Option GpsSample → Option GpsSample
+gps_at x None = None
+gps_at x (Some g) = Some (record { t_ms = x; fix = g.fix; sats = g.sats; hdop = g.hdop })
 
-abbrev pub value_at : ℕ → OptionStampedF32 → OptionStampedF32
-value_at x OptionStampedF32.None = OptionStampedF32.None
-value_at x (OptionStampedF32.Some t v) = OptionStampedF32.Some x v
+abbrev pub value_at : ℕ → Option (Stamped Float) → Option (Stamped Float)
+value_at x None = None
+value_at x (Some r) = Some (record { t_ms = x; value = r.value })
 
-abbrev pub flag_at : ℕ → OptionStampedBool → OptionStampedBool
-flag_at x OptionStampedBool.None = OptionStampedBool.None
-flag_at x (OptionStampedBool.Some t v) = OptionStampedBool.Some x v
+abbrev pub flag_at : ℕ → Option (Stamped Bool) → Option (Stamped Bool)
+flag_at x None = None
+flag_at x (Some r) = Some (record { t_ms = x; value = r.value })
 
-abbrev pub landed_at : ℕ → OptionStampedLandedState → OptionStampedLandedState
-landed_at x OptionStampedLandedState.None = OptionStampedLandedState.None
-landed_at x (OptionStampedLandedState.Some t v) = OptionStampedLandedState.Some x v
+abbrev pub landed_at : ℕ → Option (Stamped LandedState) → Option (Stamped LandedState)
+landed_at x None = None
+landed_at x (Some r) = Some (record { t_ms = x; value = r.value })
 
 -- the whole of it
 unfoldable pub telemetry_at : Stamps → Telemetry → Telemetry
@@ -326,7 +323,7 @@ durations_of d cfg =
 -- ---- the instants after a step
 
 -- one that was there is kept, and one that begins takes the reading
-abbrev pub onwards : ℕ → ℕ → OptionU32 → ℕ
+abbrev pub onwards : ℕ → ℕ → Option ℕ → ℕ
 onwards now x before = since_or (instead x before) now
 
 -- so for each timer

@@ -1,5 +1,6 @@
 -- One step of the arbiter beside one step of a record: what it shows is what the record allows, and the recovery that it keeps is the quiet stretch
 -- that a next step goes on with. Assumes nothing.
+use Rattle.std.specs.Prelude.{Option, Some, None}
 use Prim.Native.Nat.{ℕ}
 use mathlib.Core.Path.{◌≡◌, refl, ap, sym, ◌∙◌}
 use mathlib.Core.Bool.{Bool, true, false, not, ◌&&◌, cond, and-true, and-false, false≢true}
@@ -8,7 +9,6 @@ use lib.Dec.{leb}
 use lib.ListN.{length}
 use Rattle.types.specs.declared.Action.{Action}
 use Rattle.types.specs.declared.Reason.{Reason}
-use Rattle.types.specs.declared.OptionU32.{OptionU32}
 use Rattle.types.specs.declared.Request.{Request}
 use Rattle.types.specs.Numbers.{rank}
 use Rattle.time.specs.Time.{Clock, hold_met}
@@ -34,31 +34,31 @@ same_recover : (ck : Clock) (a : ArbiterState) (now hold : ℕ) (want : Request)
 unfolding recover
 same_recover ck a now hold want =
     let start = recovery_start a.recovery_since_ms now in
-    same_cond (hold_met ck now start hold) (shown want OptionU32.None) (shown (previous a) (OptionU32.Some start)) refl refl
+    same_cond (hold_met ck now start hold) (shown want None) (shown (previous a) (Some start)) refl refl
 
 same_persisted : (ck : Clock) (a : ArbiterState) (now hold : ℕ) (want : Request) (f : Bool) → Same (apply_persistence ck a now hold want f)
 unfolding apply_persistence
 same_persisted ck a now hold want true = refl
 same_persisted ck a now hold want false =
-    same_cond (leb (rank a.prev_output) (rank want.action)) (shown want OptionU32.None) (recover ck a now hold want) refl (same_recover ck a now hold want)
+    same_cond (leb (rank a.prev_output) (rank want.action)) (shown want None) (recover ck a now hold want) refl (same_recover ck a now hold want)
 
 same : (ck : Clock) (a : ArbiterState) (now hold : ℕ) (want : Request) (valid f : Bool) → Same (arbitrate ck a now hold want valid f)
 unfolding arbitrate apply_feasibility
 same ck a now hold want valid f =
     let p = apply_persistence ck a now hold want f in
-    same_cond (needs_position p.output.action && not valid) (shown (request Reason.PositionInvalid Action.Land) OptionU32.None) p refl (same_persisted ck a now hold want f)
+    same_cond (needs_position p.output.action && not valid) (shown (request Reason.PositionInvalid Action.Land) None) p refl (same_persisted ck a now hold want f)
 
 -- ---- the step
 
-or_none : (g : OptionU32) → or_else g OptionU32.None ≡ g
-or_none OptionU32.None = refl
-or_none (OptionU32.Some a) = refl
+or_none : (g : Option ℕ) → or_else g None ≡ g
+or_none None = refl
+or_none (Some a) = refl
 
-or_now : (g : OptionU32) (now : ℕ) → or_else g (OptionU32.Some now) ≡ OptionU32.Some (recovery_start g now)
-or_now OptionU32.None now = refl
-or_now (OptionU32.Some a) now = refl
+or_now : (g : Option ℕ) (now : ℕ) → or_else g (Some now) ≡ Some (recovery_start g now)
+or_now None now = refl
+or_now (Some a) now = refl
 
-abbrev pub since : ArbiterState → OptionU32
+abbrev pub since : ArbiterState → Option ℕ
 since a = a.recovery_since_ms
 
 module _ (ck : Clock) (hold : ℕ) (a : ArbiterState) (want : Request) (k : Step) (before : List Earlier) where
@@ -97,7 +97,7 @@ module _ (ck : Clock) (hold : ℕ) (a : ArbiterState) (want : Request) (k : Step
       no_third true q f = absurd (false≢true (sym f ∙ faults q))
       no_third false q f = q
 
-      stretch_is : k.disarm ≡ false → k.faulted ≡ false → wants_less k ≡ true → earliest (length before) k before ≡ OptionU32.Some (recovery_start (goes_on before) k.now)
+      stretch_is : k.disarm ≡ false → k.faulted ≡ false → wants_less k ≡ true → earliest (length before) k before ≡ Some (recovery_start (goes_on before) k.now)
       stretch_is d f w = rw (from_before k before, d, no_third _ refl f, f, w) (or_now (goes_on before) k.now)
 
       lasted_is : k.disarm ≡ false → k.faulted ≡ false → wants_less k ≡ true → lasted ck hold k before ≡ met
@@ -109,7 +109,7 @@ module _ (ck : Clock) (hold : ℕ) (a : ArbiterState) (want : Request) (k : Step
       unfolding apply_persistence
       on_fault f = rw f
 
-      on_sound : (w : Bool) → k.faulted ≡ false → wants_less k ≡ w → persisted ≡ cond (not w) (shown want OptionU32.None) (cond met (shown want OptionU32.None) (shown (previous a) (OptionU32.Some (recovery_start (goes_on before) k.now))))
+      on_sound : (w : Bool) → k.faulted ≡ false → wants_less k ≡ w → persisted ≡ cond (not w) (shown want None) (cond met (shown want None) (shown (previous a) (Some (recovery_start (goes_on before) k.now))))
       unfolding apply_persistence recover
       on_sound w f e = rw (f, no_third _ refl f, shows, wants, opposite (rank k.previous_output) (rank k.wanted) w e, goes)
 
@@ -123,7 +123,7 @@ module _ (ck : Clock) (hold : ℕ) (a : ArbiterState) (want : Request) (k : Step
       candidate_by false false f e d = rw (on_sound false f e, f, e) wants
       candidate_by false true f e d = rw (on_sound true f e, lasted_is d f e, f, e) (by met)
         where
-          by : (m : Bool) → (cond m (shown want OptionU32.None) (shown (previous a) (OptionU32.Some (recovery_start (goes_on before) k.now)))).output.action ≡ cond m k.wanted k.previous_output
+          by : (m : Bool) → (cond m (shown want None) (shown (previous a) (Some (recovery_start (goes_on before) k.now)))).output.action ≡ cond m k.wanted k.previous_output
           by true = wants
           by false = shows
 
@@ -135,7 +135,7 @@ module _ (ck : Clock) (hold : ℕ) (a : ArbiterState) (want : Request) (k : Step
       unfolding arbitrate apply_feasibility
       output_is d = rw (cond-ap (λ (r : Arbitrated). r.output.action), needs_is, candidate_is d)
 
-      since_is : k.disarm ≡ false → since arbitrated.state ≡ cond (changed_to_land ck hold k before) OptionU32.None (since persisted.state)
+      since_is : k.disarm ≡ false → since arbitrated.state ≡ cond (changed_to_land ck hold k before) None (since persisted.state)
       unfolding arbitrate apply_feasibility
       since_is d = rw (cond-ap (λ (r : Arbitrated). since r.state), needs_is, candidate_is d)
 
@@ -145,7 +145,7 @@ module _ (ck : Clock) (hold : ℕ) (a : ArbiterState) (want : Request) (k : Step
 
       -- the recovery that is kept, where k is not changed to Land
       abbrev Goes : Type 0
-      Goes = since persisted.state ≡ cond (not (ranks_below (candidate ck hold k before) k.previous_output)) (earliest (length before) k before) OptionU32.None
+      Goes = since persisted.state ≡ cond (not (ranks_below (candidate ck hold k before) k.previous_output)) (earliest (length before) k before) None
 
       goes_on_fault : (t : Bool) → k.third ≡ t → k.disarm ≡ false → k.faulted ≡ true → Goes
       unfolding without_recovery
@@ -164,10 +164,10 @@ module _ (ck : Clock) (hold : ℕ) (a : ArbiterState) (want : Request) (k : Step
       kept_since : k.disarm ≡ false → changed_to_land ck hold k before ≡ false → since kept ≡ since persisted.state
       kept_since d q = rw d (since_is d ∙ cond_no (changed_to_land ck hold k before) _ _ q)
 
-      abbrev goes_past : Action → Bool → OptionU32
-      goes_past action changed = cond (not (ranks_below action k.previous_output) && not changed) (earliest (length before) k before) OptionU32.None
+      abbrev goes_past : Action → Bool → Option ℕ
+      goes_past action changed = cond (not (ranks_below action k.previous_output) && not changed) (earliest (length before) k before) None
 
-      past : (action : Action) → cond (not (ranks_below action k.previous_output)) (earliest (length before) k before) OptionU32.None ≡ goes_past action false
+      past : (action : Action) → cond (not (ranks_below action k.previous_output)) (earliest (length before) k before) None ≡ goes_past action false
       past action = rw (and-true (not (ranks_below action k.previous_output)))
 
       -- where k shows what the arbiter gave, what the arbiter keeps is what a next step goes on with

@@ -1,4 +1,5 @@
 -- Choices, the comparison of a rank with itself and with its opposite, and the arbiter's two tests by the claim's own. Assumes nothing.
+use Rattle.std.specs.Prelude.{Some, None}
 use Prim.Native.Nat.{ℕ, ◌+◌, ◌-◌, ◌^◌, ◌≤◌}
 use mathlib.Core.Path.{◌≡◌, refl}
 use mathlib.Core.Bool.{Bool, true, false, not, ◌&&◌, cond, and-true, and-false, true≢false, false≢true}
@@ -7,7 +8,6 @@ use native.Mathlib.Omega.{arith}
 use borrow.Author.Tests.{le-ltb, le-leb, lt-leb, ltb-true, ltb-false, leb-true, leb-false}
 use lib.Dec.{leb, ltb}
 use Rattle.types.specs.declared.Action.{Action}
-use Rattle.types.specs.declared.OptionU32.{OptionU32}
 use Rattle.time.specs.Time.{Clock, wrapping, plain, wrapping_sub, age, at_least, hold_met}
 use Rattle.arbiter.specs.Arbiter.{needs_position}
 use Rattle.ladder.specs.Ladder.{is_hold_or_return, long_ago}
@@ -45,11 +45,11 @@ needs_is Action.ReturnToLaunch = refl
 needs_is Action.Land = refl
 
 -- a hold is met where the claim says that it began long enough ago
-pub met_is : (ck : Clock) (now began hold : ℕ) → long_ago ck (OptionU32.Some began) now hold ≡ hold_met ck now began hold
+pub met_is : (ck : Clock) (now began hold : ℕ) → long_ago ck (Some began) now hold ≡ hold_met ck now began hold
 unfolding age hold_met
 met_is wrapping now began hold = at (ltb (wrapping_sub now began) (2 ^ 31))
   where
-    at : (b : Bool) → leb hold (wrapping_sub now began) && b ≡ at_least (cond b (OptionU32.Some (wrapping_sub now began)) OptionU32.None) hold
+    at : (b : Bool) → leb hold (wrapping_sub now began) && b ≡ at_least (cond b (Some (wrapping_sub now began)) None) hold
     at true = and-true (leb hold (wrapping_sub now began))
     at false = and-false (leb hold (wrapping_sub now began))
 met_is plain now began hold = at (ltb now began) refl
@@ -58,6 +58,6 @@ met_is plain now began hold = at (ltb now began) refl
     long h true e = let g = leb-true hold (now - began) e in le-leb (began + hold) now (omega arith)
     long h false e = let g = leb-false hold (now - began) e in lt-leb (began + hold) now (omega arith)
 
-    at : (b : Bool) → ltb now began ≡ b → leb (began + hold) now ≡ at_least (cond b OptionU32.None (OptionU32.Some (now - began))) hold
+    at : (b : Bool) → ltb now began ≡ b → leb (began + hold) now ≡ at_least (cond b None (Some (now - began))) hold
     at true e = let g = ltb-true now began e in lt-leb (began + hold) now (omega arith)
     at false e = long (ltb-false now began e) _ refl

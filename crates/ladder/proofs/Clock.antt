@@ -1,4 +1,5 @@
 -- The clock that the supervisor keeps is what the readings of the record say: last sound reading, faults, every third of a row. Assumes nothing.
+use Rattle.std.specs.Prelude.{Option, Some, None}
 use Prim.Native.Nat.{ℕ, suc, ◌+◌, ◌%◌, ◌<◌, ◌≤◌}
 use mathlib.Core.Path.{◌≡◌, refl, sym}
 use mathlib.Core.Bool.{Bool, true, false, ◌&&◌, cond}
@@ -6,7 +7,6 @@ use mathlib.Core.List.{List, [], ◌∷◌}
 use native.Mathlib.Omega.{arith}
 use borrow.Author.Tests.{eq-eqb, ne_eqb, leb-true, leb-false}
 use lib.Dec.{leb, eqb}
-use Rattle.types.specs.declared.OptionU32.{OptionU32}
 use Rattle.time.specs.Time.{Clock, age}
 use Rattle.clock.specs.declared.ClockStep.{ClockStep}
 use Rattle.clock.specs.Clock.{clock_fault, sound_clock, clock_step}
@@ -28,29 +28,29 @@ pub record Told (ck : Clock) (now : ℕ) (earlier : List ℕ) (c : ClockStep) : 
   pub last : c.last_now ≡ last_sound ck (now ∷ earlier)
   pub streak : c.backwards_streak ≡ faulted_row ck (now ∷ earlier) % 3
 
-first_told : (ck : Clock) → (epoch streak now : ℕ) (last : OptionU32) → Told ck now [] (clock_step ck last epoch streak false now)
+first_told : (ck : Clock) → (epoch streak now : ℕ) (last : Option ℕ) → Told ck now [] (clock_step ck last epoch streak false now)
 unfolding clock_step sound_clock last_sound faulted_row
 first_told ck epoch streak now last = record { fault = refl; is_third_lem = refl; last = refl; streak = refl }
 
 -- from the second step on there is a last sound reading
-module _ (ck : Clock) (epoch streak now x : ℕ) (earlier : List ℕ) (l : last_sound ck earlier ≡ OptionU32.Some x) (s : streak ≡ faulted_row ck earlier % 3) where
-  told_by : (o : OptionU32) → age ck now x ≡ o → Told ck now earlier (clock_step ck (OptionU32.Some x) epoch streak true now)
+module _ (ck : Clock) (epoch streak now x : ℕ) (earlier : List ℕ) (l : last_sound ck earlier ≡ Some x) (s : streak ≡ faulted_row ck earlier % 3) where
+  told_by : (o : Option ℕ) → age ck now x ≡ o → Told ck now earlier (clock_step ck (Some x) epoch streak true now)
   unfolding clock_step sound_clock clock_fault last_sound faulted_row
-  told_by OptionU32.None e =
+  told_by None e =
       record {
         fault = rw (l, e);
         is_third_lem = rw (l, e, s) (third_by (faulted_row ck earlier) _ refl);
         last = rw (l, e);
         streak = rw (l, e, s) (row_by (faulted_row ck earlier) _ refl);
       }
-  told_by (OptionU32.Some y) e = record { fault = rw (l, e); is_third_lem = rw (l, e); last = rw (l, e); streak = rw (l, e) }
+  told_by (Some y) e = record { fault = rw (l, e); is_third_lem = rw (l, e); last = rw (l, e); streak = rw (l, e) }
 
-sound_by : (ck : Clock) → (f : Bool) (now : ℕ) (earlier : List ℕ) → faulted ck now earlier ≡ f → ((x : ℕ) × (last_sound ck earlier ≡ OptionU32.Some x)) → (x : ℕ) × (last_sound ck (now ∷ earlier) ≡ OptionU32.Some x)
+sound_by : (ck : Clock) → (f : Bool) (now : ℕ) (earlier : List ℕ) → faulted ck now earlier ≡ f → ((x : ℕ) × (last_sound ck earlier ≡ Some x)) → (x : ℕ) × (last_sound ck (now ∷ earlier) ≡ Some x)
 unfolding last_sound
 sound_by ck true now earlier f (x, e) = (x, rw (f, e))
 sound_by ck false now earlier f (x, e) = (now, rw f)
 
-last_sound_lem : (ck : Clock) → (now : ℕ) (earlier : List ℕ) → (x : ℕ) × (last_sound ck (now ∷ earlier) ≡ OptionU32.Some x)
+last_sound_lem : (ck : Clock) → (now : ℕ) (earlier : List ℕ) → (x : ℕ) × (last_sound ck (now ∷ earlier) ≡ Some x)
 unfolding last_sound
 last_sound_lem ck now [] = (now, refl)
 last_sound_lem ck now (r ∷ rs) = sound_by ck _ now (r ∷ rs) refl (last_sound_lem ck r rs)

@@ -1,21 +1,20 @@
 -- Document 01, 'Run and record': what the clock readings of a record say. Lists have the latest reading first. Assumes nothing.
-use Rattle.std.specs.Prelude.{ℕ, suc, ◌%◌, Bool, true, false, ◌&&◌, cond, List, [], ◌∷◌, eqb}
-use Rattle.types.specs.declared.OptionU32.{OptionU32}
+use Rattle.std.specs.Prelude.{ℕ, suc, ◌%◌, Bool, true, false, ◌&&◌, cond, List, [], ◌∷◌, eqb, Option, Some, None}
 use Rattle.time.specs.Time.{Clock, age}
 
-abbrev pub absent : OptionU32 → Bool
-absent OptionU32.None = true
-absent (OptionU32.Some a) = false
+abbrev pub absent : Option ℕ → Bool
+absent None = true
+absent (Some a) = false
 
 -- "no age against that of the last sound step .. ; the first is sound"
-abbrev pub no_age_against : Clock → OptionU32 → ℕ → Bool
-no_age_against clock OptionU32.None now = false
-no_age_against clock (OptionU32.Some last) now = absent (age clock now last)
+abbrev pub no_age_against : Clock → Option ℕ → ℕ → Bool
+no_age_against clock None now = false
+no_age_against clock (Some last) now = absent (age clock now last)
 
 -- the reading of the last sound step
-unfoldable pub last_sound : Clock → List ℕ → OptionU32
-last_sound clock [] = OptionU32.None
-last_sound clock (now ∷ earlier) = cond (no_age_against clock (last_sound clock earlier) now) (last_sound clock earlier) (OptionU32.Some now)
+unfoldable pub last_sound : Clock → List ℕ → Option ℕ
+last_sound clock [] = None
+last_sound clock (now ∷ earlier) = cond (no_age_against clock (last_sound clock earlier) now) (last_sound clock earlier) (Some now)
 
 -- the term 'faulted': "A step is faulted where its clock reading has no age against that of the last sound step, otherwise sound"
 abbrev pub faulted : Clock → ℕ → List ℕ → Bool

@@ -1,7 +1,6 @@
 -- Document 01, 'Quiet stretch' and 'Run and record': the ladder as read off a record. Lists have the latest step first. Assumes nothing.
-use Rattle.std.specs.Prelude.{ℕ, zero, suc, ◌+◌, ◌^◌, Bool, true, false, not, ◌&&◌, ◌||◌, cond, List, [], ◌∷◌, map, leb, ltb, length, take}
+use Rattle.std.specs.Prelude.{ℕ, zero, suc, ◌+◌, ◌^◌, Bool, true, false, not, ◌&&◌, ◌||◌, cond, List, [], ◌∷◌, map, leb, ltb, length, take, Option, Some, None}
 use Rattle.types.specs.declared.Action.{Action}
-use Rattle.types.specs.declared.OptionU32.{OptionU32}
 use Rattle.types.specs.Numbers.{rank}
 use Rattle.time.specs.Time.{Clock, wrapping, plain, wrapping_sub}
 
@@ -77,22 +76,22 @@ quiet k between =
 
 -- "from the earliest": j is tried n steps before k, then n - 1 and so on, and at last k itself.
 -- "It began at j's clock reading". "Without such a j there is none."
-unfoldable pub earliest : ℕ → Step → List Earlier → OptionU32
-earliest zero k before = cond (quiet k []) (OptionU32.Some k.now) OptionU32.None
+unfoldable pub earliest : ℕ → Step → List Earlier → Option ℕ
+earliest zero k before = cond (quiet k []) (Some k.now) None
 earliest (suc n) k before =
     let between = take (suc n) before in
-    cond (quiet k between) (OptionU32.Some (begin k between).now) (earliest n k before)
+    cond (quiet k between) (Some (begin k between).now) (earliest n k before)
 
 -- the term 'quiet stretch' "ending at sound step k" ("a faulted step has none"), by the reading at which it began; `before` are all steps before k
-unfoldable pub quiet_stretch : Step → List Earlier → OptionU32
-quiet_stretch k before = cond (sound k) (earliest (length before) k before) OptionU32.None
+unfoldable pub quiet_stretch : Step → List Earlier → Option ℕ
+quiet_stretch k before = cond (sound k) (earliest (length before) k before) None
 
 -- "how long ago is that reading's wrapping age at k": "began at least recovery_hold_ms and under 2^31 ms ago". On the clock that doesn't wrap there is
 -- "no upper limit on the quiet stretch".
-abbrev pub long_ago : Clock → OptionU32 → ℕ → ℕ → Bool
-long_ago clock OptionU32.None now hold = false
-long_ago wrapping (OptionU32.Some began) now hold = let ago = wrapping_sub now began in leb hold ago && ltb ago (2 ^ 31)
-long_ago plain (OptionU32.Some began) now hold = leb (began + hold) now
+abbrev pub long_ago : Clock → Option ℕ → ℕ → ℕ → Bool
+long_ago clock None now hold = false
+long_ago wrapping (Some began) now hold = let ago = wrapping_sub now began in leb hold ago && ltb ago (2 ^ 31)
+long_ago plain (Some began) now hold = leb (began + hold) now
 
 -- "whether its quiet stretch has lasted as demand 3 asks"
 abbrev pub lasted : Clock → ℕ → Step → List Earlier → Bool

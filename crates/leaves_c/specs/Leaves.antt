@@ -1,19 +1,14 @@
 -- What the entries of `leaves_c` add to the leaves that they call: a number for what is absent, and the frames in which values come and go.
 -- Assumes nothing.
-use Rattle.std.specs.Prelude.{ℕ, Bool, false, cond, List, eqb, Float}
+use Rattle.std.specs.Prelude.{ℕ, Bool, false, cond, List, eqb, Float, Option, Some, None, Result, Ok, Err}
+use Rattle.std.specs.Bool.{then_some}
+use Rattle.types.specs.declared.UnknownNumber.{UnknownNumber}
 use Rattle.wire.specs.Frame.{room_fault, frame_written}
 use Rattle.types.specs.declared.Action.{Action}
 use Rattle.types.specs.declared.ActiveSet.{ActiveSet}
 use Rattle.types.specs.declared.Decision.{Decision}
 use Rattle.types.specs.declared.EnergyEstimate.{EnergyEstimate}
 use Rattle.types.specs.declared.LandedState.{LandedState}
-use Rattle.types.specs.declared.OptionAction.{OptionAction}
-use Rattle.types.specs.declared.OptionF32.{OptionF32}
-use Rattle.types.specs.declared.OptionLandedState.{OptionLandedState}
-use Rattle.types.specs.declared.OptionReason.{OptionReason}
-use Rattle.types.specs.declared.OptionStampedBool.{OptionStampedBool}
-use Rattle.types.specs.declared.OptionStampedLandedState.{OptionStampedLandedState}
-use Rattle.types.specs.declared.OptionU32.{OptionU32}
 use Rattle.types.specs.declared.Point2.{Point2}
 use Rattle.types.specs.declared.Reason.{Reason}
 use Rattle.types.specs.declared.Vec3.{Vec3}
@@ -27,40 +22,38 @@ use Rattle.frame_fence.specs.declared.FenceRead.{FenceRead}
 use Rattle.frame_fence.specs.FenceFrame.{fence_of, fence_number, fence_frame}
 use Rattle.frame_decision.specs.declared.DecisionRead.{DecisionRead}
 use Rattle.frame_decision.specs.DecisionFrame.{blank_decision, decision_frame}
+use Rattle.types.specs.declared.Stamped.{Stamped}
 
 -- an age; no age is as large as the number for none
-abbrev pub age_or : OptionU32 → ℕ
-age_or OptionU32.None = 0xFFFF_FFFF
-age_or (OptionU32.Some n) = n
+abbrev pub age_or : Option ℕ → ℕ
+age_or None = 0xFFFF_FFFF
+age_or (Some n) = n
 
-abbrev pub index_or : OptionReason → ℕ
-index_or OptionReason.None = 19
-index_or (OptionReason.Some r) = index r
+abbrev pub index_or : Result Reason UnknownNumber → ℕ
+index_or (Err e) = 19
+index_or (Ok r) = index r
 
-abbrev pub priority_or : OptionReason → ℕ
-priority_or OptionReason.None = 0
-priority_or (OptionReason.Some r) = display_priority r
+abbrev pub priority_or : Result Reason UnknownNumber → ℕ
+priority_or (Err e) = 0
+priority_or (Ok r) = display_priority r
 
-abbrev pub rank_or : OptionAction → ℕ
-rank_or OptionAction.None = 5
-rank_or (OptionAction.Some a) = rank a
+abbrev pub rank_or : Result Action UnknownNumber → ℕ
+rank_or (Err e) = 5
+rank_or (Ok a) = rank a
 
-abbrev pub reason_or : OptionReason → Reason
-reason_or OptionReason.None = Reason.None
-reason_or (OptionReason.Some r) = r
+abbrev pub reason_or : Result Reason UnknownNumber → Reason
+reason_or (Err e) = Reason.None
+reason_or (Ok r) = r
 
-abbrev pub action_or : OptionAction → Action
-action_or OptionAction.None = Action.Nominal
-action_or (OptionAction.Some a) = a
+abbrev pub action_or : Result Action UnknownNumber → Action
+action_or (Err e) = Action.Nominal
+action_or (Ok a) = a
 
 abbrev pub vec3 : Float → Float → Float → Vec3
 vec3 n e d = record { n = n; e = e; d = d }
 
 abbrev pub point2 : Float → Float → Point2
 point2 n e = record { n = n; e = e }
-
-abbrev pub option_of : Bool → Float → OptionF32
-option_of present x = cond present (OptionF32.Some x) OptionF32.None
 
 -- a call that writes a frame: its number and the slice
 pub record Call : Type 0 where
@@ -133,25 +126,22 @@ with_energy d e =
 abbrev pub estimate_frame : EnergyEstimate → List ℕ
 estimate_frame e = decision_frame (with_energy blank_decision e)
 
-abbrev pub energy_call : ConfigRead → Vec3 → OptionF32 → List ℕ → Call
+abbrev pub energy_call : ConfigRead → Vec3 → Option Float → List ℕ → Call
 energy_call (ConfigRead.Refused n) pos remaining to = refused n to
 energy_call (ConfigRead.Frame cfg) pos remaining to = written (estimate_frame (rtl_energy cfg pos remaining)) to
 
 -- the gate: the hold's start, or 2 ^ 32 where no hold has begun
-abbrev pub since_or : OptionU32 → ℕ
-since_or OptionU32.None = 0x1_0000_0000
-since_or (OptionU32.Some n) = n
+abbrev pub since_or : Option ℕ → ℕ
+since_or None = 0x1_0000_0000
+since_or (Some n) = n
 
 abbrev pub gate_of : Bool → ℕ → DisarmGate
-gate_of held since = record { hold_since_ms = cond held (OptionU32.Some since) OptionU32.None }
+gate_of held since = record { hold_since_ms = then_some held since }
 
--- the two readings that it goes by
-abbrev pub stamped_bool : Bool → ℕ → Bool → OptionStampedBool
-stamped_bool present t x = cond present (OptionStampedBool.Some t x) OptionStampedBool.None
+-- a reading that it goes by
+abbrev pub stamped : {A : Type 0} → Bool → ℕ → A → Option (Stamped A)
+stamped present t x = then_some present (record { t_ms = t; value = x })
 
-abbrev pub landed_or : OptionLandedState → LandedState
-landed_or OptionLandedState.None = LandedState.Undefined
-landed_or (OptionLandedState.Some l) = l
-
-abbrev pub stamped_landed : Bool → ℕ → LandedState → OptionStampedLandedState
-stamped_landed present t l = cond present (OptionStampedLandedState.Some t l) OptionStampedLandedState.None
+abbrev pub landed_or : Result LandedState UnknownNumber → LandedState
+landed_or (Err e) = LandedState.Undefined
+landed_or (Ok l) = l

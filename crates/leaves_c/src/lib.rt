@@ -2,10 +2,11 @@
 // than a number or two come and go in their frames.
 #![tactic(auto)]
 
+ghost use Rattle.std.specs.Bool.{then_some};
 ghost use Rattle.std.specs.Prelude.{false, ◌≡◌, take};
 ghost use Rattle.wire.specs.Frame.{room_fault, frame_written};
 ghost use Rattle.time.specs.Time.{wrapping, age, fresh};
-ghost use Rattle.types.specs.Numbers.{landed_of_number, rank, action_of_rank, index, from_index};
+ghost use Rattle.types.specs.Numbers.{landed_of_number, rank, action_of_rank, index, reason_of_index};
 ghost use Rattle.types.specs.ActiveSet.{requested_action};
 ghost use Rattle.types.specs.Vec3.{alt_m, horizontal_dist_home};
 ghost use Rattle.geometry.specs.Polygon.{polygon_new};
@@ -15,25 +16,21 @@ ghost use Rattle.config.specs.Default.{default_config, default_fence};
 ghost use Rattle.frame_config.specs.ConfigFrame.{read_config, config_frame};
 ghost use Rattle.frame_fence.specs.FenceFrame.{read_fence, fence_of, fence_number};
 ghost use Rattle.frame_decision.specs.DecisionFrame.{read_decision};
-ghost use Rattle.leaves_c.specs.Leaves.{age_or, index_or, priority_or, rank_or, reason_or, action_or, vec3, point2, option_of, places_frame, held_call, filed_call, cleared_call, energy_call, estimate_frame, since_or, gate_of, stamped_bool, landed_or, stamped_landed};
+ghost use Rattle.leaves_c.specs.Leaves.{age_or, index_or, priority_or, rank_or, reason_or, action_or, vec3, point2, places_frame, held_call, filed_call, cleared_call, energy_call, estimate_frame, since_or, gate_of, stamped, landed_or};
 
 use config::Config;
 use disarm::{DisarmGate, Evaluated};
 use frame_config::ConfigRead;
 use geometry::{ConvexPolygon, Geofence};
 use types::{
-    Action, EnergyEstimate, LandedState, OptionAction, OptionF32, OptionLandedState, OptionReason,
-    OptionStampedBool, OptionStampedLandedState, OptionU32, Point2, Reason, Request, Vec3,
+    Action, EnergyEstimate, LandedState, Point2, Reason, Request, Stamped, UnknownNumber, Vec3,
 };
 
 #[unsafe(no_mangle)]
 pub extern "C" fn leaf_age(now: u32, then: u32) -> u32
     ensures { result ≡ age_or (age wrapping now then) }
 {
-    match time::age_ms(now, then) {
-        OptionU32::Some(age) => age,
-        OptionU32::None => u32::MAX,
-    }
+    time::age_ms(now, then).unwrap_or(u32::MAX)
 }
 
 #[unsafe(no_mangle)]
@@ -43,130 +40,115 @@ pub extern "C" fn leaf_fresh(now: u32, stamp: u32, limit: u32) -> bool
     time::is_fresh(now, stamp, limit)
 }
 
-#[unsafe(no_mangle)]
-pub extern "C" fn leaf_reason_index(i: usize) -> usize
-    ensures { result ≡ index_or (from_index i) }
+// A slot above 255 is no reason's.
+fn reason_at(i: usize) -> Result<Reason, UnknownNumber>
+    ensures { result ≡ reason_of_index i }
 {
-    match Reason::from_index(i) {
-        OptionReason::Some(r) => r.index(),
-        OptionReason::None => 19,
+    match u8::try_from(i) {
+        Ok(n) => Reason::try_from(n),
+        Err(_) => Err(UnknownNumber),
     }
 }
 
 #[unsafe(no_mangle)]
-pub extern "C" fn leaf_reason_priority(i: usize) -> u8
-    ensures { result ≡ priority_or (from_index i) }
+pub extern "C" fn leaf_reason_index(i: usize) -> usize
+    ensures { result ≡ index_or (reason_of_index i) }
 {
-    match Reason::from_index(i) {
-        OptionReason::Some(r) => r.display_priority(),
-        OptionReason::None => 0,
-    }
+    reason_at(i).map_or(19, |r| r.index())
+}
+
+#[unsafe(no_mangle)]
+pub extern "C" fn leaf_reason_priority(i: usize) -> u8
+    ensures { result ≡ priority_or (reason_of_index i) }
+{
+    reason_at(i).map_or(0, |r| r.display_priority())
 }
 
 #[unsafe(no_mangle)]
 pub extern "C" fn leaf_action_rank(n: u8) -> u8
     ensures { result ≡ rank_or (action_of_rank n) }
 {
-    match Action::from_rank(n) {
-        OptionAction::Some(a) => a.rank(),
-        OptionAction::None => 5,
-    }
+    Action::try_from(n).map_or(5, |a| a.rank())
 }
 
 // What the requests of a kind 4 frame ask for; of a frame that is refused, nothing.
 fn requested(frame: &[u8]) -> Request
     ensures { result ≡ requested_action (read_decision frame.now).decision.active.reqs }
 {
-    let read = frame_decision::read_decision(frame);
-    let d = read.decision;
-    let set = d.active;
-    set.requested_action()
+    frame_decision::read_decision(frame)
+        .decision
+        .active
+        .requested_action()
 }
 
 #[unsafe(no_mangle)]
 pub extern "C" fn leaf_requested_rank(frame: &[u8]) -> u8
     ensures { result ≡ rank (requested_action (read_decision frame.now).decision.active.reqs).action }
 {
-    let best = requested(frame);
-    let a = best.action;
-    a.rank()
+    requested(frame).action.rank()
 }
 
 #[unsafe(no_mangle)]
 pub extern "C" fn leaf_requested_reason(frame: &[u8]) -> usize
     ensures { result ≡ index (requested_action (read_decision frame.now).decision.active.reqs).reason }
 {
-    let best = requested(frame);
-    let r = best.reason;
-    r.index()
+    requested(frame).reason.index()
 }
 
 fn reason_of(i: usize) -> Reason
-    ensures { result ≡ reason_or (from_index i) }
+    ensures { result ≡ reason_or (reason_of_index i) }
 {
-    match Reason::from_index(i) {
-        OptionReason::Some(r) => r,
-        OptionReason::None => Reason::None,
-    }
+    reason_at(i).unwrap_or(Reason::None)
 }
 
 fn action_of(n: u8) -> Action
     ensures { result ≡ action_or (action_of_rank n) }
 {
-    match Action::from_rank(n) {
-        OptionAction::Some(a) => a,
-        OptionAction::None => Action::Nominal,
-    }
+    Action::try_from(n).unwrap_or(Action::Nominal)
 }
 
 // A request filed among those of a kind 4 frame, which is written anew.
 #[unsafe(no_mangle)]
 pub extern "C" fn leaf_filed(frame: &[u8], reason: usize, action: u8, to: &mut [u8]) -> u32
-    ensures value { result ≡ (filed_call (read_decision frame.now) (reason_or (from_index reason)) (action_or (action_of_rank action)) to.old).number }
-    ensures to_after { to.new ≡ (filed_call (read_decision frame.now) (reason_or (from_index reason)) (action_or (action_of_rank action)) to.old).slice }
+    ensures value { result ≡ (filed_call (read_decision frame.now) (reason_or (reason_of_index reason)) (action_or (action_of_rank action)) to.old).number }
+    ensures to_after { to.new ≡ (filed_call (read_decision frame.now) (reason_or (reason_of_index reason)) (action_or (action_of_rank action)) to.old).slice }
 {
     let read = frame_decision::read_decision(frame);
     if read.refused != 0 {
-        return read.refused as u32;
+        return u32::from(read.refused);
     }
     let mut d = read.decision;
-    let set = d.active;
-    let next = set.set(reason_of(reason), action_of(action));
-    d.active = next;
-    frame_decision::write_decision(to, d) as u32
+    d.active = d.active.set(reason_of(reason), action_of(action));
+    u32::from(frame_decision::write_decision(to, d))
 }
 
 // The same with a reason's request cleared.
 #[unsafe(no_mangle)]
 pub extern "C" fn leaf_cleared(frame: &[u8], reason: usize, to: &mut [u8]) -> u32
-    ensures value { result ≡ (cleared_call (read_decision frame.now) (reason_or (from_index reason)) to.old).number }
-    ensures to_after { to.new ≡ (cleared_call (read_decision frame.now) (reason_or (from_index reason)) to.old).slice }
+    ensures value { result ≡ (cleared_call (read_decision frame.now) (reason_or (reason_of_index reason)) to.old).number }
+    ensures to_after { to.new ≡ (cleared_call (read_decision frame.now) (reason_or (reason_of_index reason)) to.old).slice }
 {
     let read = frame_decision::read_decision(frame);
     if read.refused != 0 {
-        return read.refused as u32;
+        return u32::from(read.refused);
     }
     let mut d = read.decision;
-    let set = d.active;
-    let next = set.clear(reason_of(reason));
-    d.active = next;
-    frame_decision::write_decision(to, d) as u32
+    d.active = d.active.clear(reason_of(reason));
+    u32::from(frame_decision::write_decision(to, d))
 }
 
 #[unsafe(no_mangle)]
 pub extern "C" fn leaf_altitude(n: f32, e: f32, d: f32) -> f32
     ensures { result ≡ alt_m (vec3 n e d) }
 {
-    let v = Vec3 { n: n, e: e, d: d };
-    v.alt_m()
+    Vec3 { n, e, d }.alt_m()
 }
 
 #[unsafe(no_mangle)]
 pub extern "C" fn leaf_home_distance(n: f32, e: f32, d: f32) -> f32
     ensures { result ≡ horizontal_dist_home (vec3 n e d) }
 {
-    let v = Vec3 { n: n, e: e, d: d };
-    v.horizontal_dist_home()
+    Vec3 { n, e, d }.horizontal_dist_home()
 }
 
 // The Rust's constructor on the corners of a fence's frame, with any count: one above 255 is in no frame.
@@ -215,6 +197,7 @@ pub extern "C" fn leaf_fence_contains(frame: &[u8], n: f32, e: f32) -> bool
 }
 
 // All sixteen places of a fence's polygon, the unused ones too, as a frame of sixteen corners.
+#[tactic(auto, unfolding(frame_fence::specs::FenceFrame::write_fault, frame_fence::specs::FenceFrame::fence_written))]
 fn write_places(fence: Geofence, to: &mut [u8]) -> u16
     ensures { (result ≡ room_fault (places_frame fence) to.old) × (to.new ≡ frame_written (places_frame fence) to.old) }
 {
@@ -230,16 +213,16 @@ pub extern "C" fn leaf_fence_held(frame: &[u8], to: &mut [u8]) -> u32
 {
     let sent = frame_fence::read_fence(frame);
     if sent.refused != 0 {
-        return sent.refused as u32;
+        return u32::from(sent.refused);
     }
     let made = frame_fence::fence_of(sent);
     let result = made.result;
     let broken = frame_fence::fence_number(result);
     if broken != 0 {
-        return broken as u32;
+        return u32::from(broken);
     }
     let fence = made.fence;
-    write_places(fence, to) as u32
+    u32::from(write_places(fence, to))
 }
 
 #[unsafe(no_mangle)]
@@ -249,7 +232,7 @@ pub extern "C" fn leaf_default_fence(to: &mut [u8]) -> u32
 {
     let made = config::default_fence();
     let fence = made.fence;
-    write_places(fence, to) as u32
+    u32::from(write_places(fence, to))
 }
 
 #[unsafe(no_mangle)]
@@ -267,25 +250,14 @@ pub extern "C" fn leaf_default_config(to: &mut [u8]) -> u32
     ensures value { result ≡ room_fault (config_frame default_config) to.old }
     ensures to_after { to.new ≡ frame_written (config_frame default_config) to.old }
 {
-    frame_config::write_config(to, Config::default()) as u32
-}
-
-fn option_of(present: bool, value: f32) -> OptionF32
-    ensures { result ≡ option_of present value }
-{
-    if present {
-        OptionF32::Some(value)
-    } else {
-        OptionF32::None
-    }
+    u32::from(frame_config::write_config(to, Config::default()))
 }
 
 // An estimate in the frame of a Decision that has nothing else.
 fn write_estimate(estimate: EnergyEstimate, to: &mut [u8]) -> u16
     ensures { (result ≡ room_fault (estimate_frame estimate) to.old) × (to.new ≡ frame_written (estimate_frame estimate) to.old) }
 {
-    let blank = frame_decision::refused_with(0);
-    let mut d = blank.decision;
+    let mut d = frame_decision::refused_with(0).decision;
     d.energy = estimate;
     frame_decision::write_decision(to, d)
 }
@@ -300,15 +272,14 @@ pub extern "C" fn leaf_energy(
     remaining: f32,
     to: &mut [u8],
 ) -> u32
-    ensures value { result ≡ (energy_call (read_config config.now) (vec3 n e d) (option_of known remaining) to.old).number }
-    ensures to_after { to.new ≡ (energy_call (read_config config.now) (vec3 n e d) (option_of known remaining) to.old).slice }
+    ensures value { result ≡ (energy_call (read_config config.now) (vec3 n e d) (then_some known remaining) to.old).number }
+    ensures to_after { to.new ≡ (energy_call (read_config config.now) (vec3 n e d) (then_some known remaining) to.old).slice }
 {
     match frame_config::read_config(config) {
-        ConfigRead::Refused(number) => number as u32,
+        ConfigRead::Refused(number) => u32::from(number),
         ConfigRead::Frame(cfg) => {
-            let pos = Vec3 { n: n, e: e, d: d };
-            let estimate = energy::rtl_energy(cfg, pos, option_of(known, remaining));
-            write_estimate(estimate, to) as u32
+            let estimate = energy::rtl_energy(cfg, Vec3 { n, e, d }, known.then_some(remaining));
+            u32::from(write_estimate(estimate, to))
         }
     }
 }
@@ -316,52 +287,27 @@ pub extern "C" fn leaf_energy(
 fn gate_of(held: bool, since: u32) -> DisarmGate
     ensures { result ≡ gate_of held since }
 {
-    if held {
-        DisarmGate {
-            hold_since_ms: OptionU32::Some(since),
-        }
-    } else {
-        disarm::reset_gate()
+    DisarmGate {
+        hold_since_ms: held.then_some(since),
     }
 }
 
 fn since_left(gate: DisarmGate) -> u64
     ensures { result ≡ since_or gate.hold_since_ms }
 {
-    let since = gate.hold_since_ms;
-    match since {
-        OptionU32::Some(t) => t as u64,
-        OptionU32::None => 4294967296,
-    }
+    gate.hold_since_ms.map_or(4294967296, u64::from)
 }
 
-fn stamped_bool(present: bool, t: u32, x: bool) -> OptionStampedBool
-    ensures { result ≡ stamped_bool present t x }
+fn stamped<T: Copy>(present: bool, t_ms: u32, value: T) -> Option<Stamped<T>>
+    ensures { result ≡ stamped present t_ms value }
 {
-    if present {
-        OptionStampedBool::Some { t_ms: t, value: x }
-    } else {
-        OptionStampedBool::None
-    }
+    present.then_some(Stamped { t_ms, value })
 }
 
 fn landed_of(n: u8) -> LandedState
     ensures { result ≡ landed_or (landed_of_number n) }
 {
-    match LandedState::from_number(n) {
-        OptionLandedState::Some(l) => l,
-        OptionLandedState::None => LandedState::Undefined,
-    }
-}
-
-fn stamped_landed(present: bool, t: u32, l: LandedState) -> OptionStampedLandedState
-    ensures { result ≡ stamped_landed present t l }
-{
-    if present {
-        OptionStampedLandedState::Some { t_ms: t, value: l }
-    } else {
-        OptionStampedLandedState::None
-    }
+    LandedState::try_from(n).unwrap_or(LandedState::Undefined)
 }
 
 // A gate that is lent to `evaluate`, with what it answers.
@@ -380,20 +326,16 @@ fn evaluated(
     requested: u8,
     clock_fault: bool,
 ) -> Evaluated
-    ensures { result ≡ evaluate wrapping (gate_of held since) now_ms (stamped_bool armed_known armed_ms armed) (stamped_landed landed_known landed_ms (landed_or (landed_of_number landed))) status_fresh_ms disarm_hold_ms (action_or (action_of_rank requested)) clock_fault }
+    ensures { result ≡ evaluate wrapping (gate_of held since) now_ms (stamped armed_known armed_ms armed) (stamped landed_known landed_ms (landed_or (landed_of_number landed))) status_fresh_ms disarm_hold_ms (action_or (action_of_rank requested)) clock_fault }
 {
-    let gate = gate_of(held, since);
-    let a = stamped_bool(armed_known, armed_ms, armed);
-    let l = stamped_landed(landed_known, landed_ms, landed_of(landed));
-    let wanted = action_of(requested);
     disarm::evaluate_lent(
-        gate,
+        gate_of(held, since),
         now_ms,
-        a,
-        l,
+        stamped(armed_known, armed_ms, armed),
+        stamped(landed_known, landed_ms, landed_of(landed)),
         status_fresh_ms,
         disarm_hold_ms,
-        wanted,
+        action_of(requested),
         clock_fault,
     )
 }
@@ -414,9 +356,9 @@ pub extern "C" fn leaf_gate_eligible(
     requested: u8,
     clock_fault: bool,
 ) -> bool
-    ensures { result ≡ (evaluate wrapping (gate_of held since) now_ms (stamped_bool armed_known armed_ms armed) (stamped_landed landed_known landed_ms (landed_or (landed_of_number landed))) status_fresh_ms disarm_hold_ms (action_or (action_of_rank requested)) clock_fault).eligible }
+    ensures { result ≡ (evaluate wrapping (gate_of held since) now_ms (stamped armed_known armed_ms armed) (stamped landed_known landed_ms (landed_or (landed_of_number landed))) status_fresh_ms disarm_hold_ms (action_or (action_of_rank requested)) clock_fault).eligible }
 {
-    let e = evaluated(
+    evaluated(
         held,
         since,
         now_ms,
@@ -430,8 +372,8 @@ pub extern "C" fn leaf_gate_eligible(
         disarm_hold_ms,
         requested,
         clock_fault,
-    );
-    e.eligible
+    )
+    .eligible
 }
 
 // The start of the hold in the gate that is left.
@@ -451,7 +393,7 @@ pub extern "C" fn leaf_gate_since(
     requested: u8,
     clock_fault: bool,
 ) -> u64
-    ensures { result ≡ since_or (evaluate wrapping (gate_of held since) now_ms (stamped_bool armed_known armed_ms armed) (stamped_landed landed_known landed_ms (landed_or (landed_of_number landed))) status_fresh_ms disarm_hold_ms (action_or (action_of_rank requested)) clock_fault).gate.hold_since_ms }
+    ensures { result ≡ since_or (evaluate wrapping (gate_of held since) now_ms (stamped armed_known armed_ms armed) (stamped landed_known landed_ms (landed_or (landed_of_number landed))) status_fresh_ms disarm_hold_ms (action_or (action_of_rank requested)) clock_fault).gate.hold_since_ms }
 {
     let e = evaluated(
         held,
@@ -468,8 +410,7 @@ pub extern "C" fn leaf_gate_since(
         requested,
         clock_fault,
     );
-    let gate = e.gate;
-    since_left(gate)
+    since_left(e.gate)
 }
 
 // The same of a gate that is lent to `reset`.
@@ -477,6 +418,5 @@ pub extern "C" fn leaf_gate_since(
 pub extern "C" fn leaf_gate_reset(held: bool, since: u32) -> u64
     ensures { result ≡ since_or closed.hold_since_ms }
 {
-    let gate = disarm::reset_lent(gate_of(held, since));
-    since_left(gate)
+    since_left(disarm::reset_lent(gate_of(held, since)))
 }

@@ -1,4 +1,5 @@
 -- Each mark is tested, at the marks' reading, as it marks. Assumes nothing.
+use Rattle.std.specs.Prelude.{Option, Some, None}
 use Prim.Native.Nat.{ℕ, zero, suc, ◌-◌, ◌≤◌, ◌^◌, min}
 use mathlib.Core.Path.{◌≡◌, refl, ap, sym, ◌∙◌}
 use mathlib.Core.Bool.{Bool, true, false, cond}
@@ -6,7 +7,6 @@ use native.Mathlib.Omega.{arith}
 use native.Mathlib.Nat.{le_refl}
 use borrow.Author.Tests.{le-leb, lt-leb, le-ltb, lt-ltb, ltb-false}
 use lib.Dec.{leb, ltb}
-use Rattle.types.specs.declared.OptionU32.{OptionU32}
 use Rattle.time.specs.Time.{wrapping, plain, wrapping_sub, age, fresh, hold_met}
 use Rattle.timers.specs.Timer.{started}
 use Rattle.triggers.specs.Families.{gcs_age}
@@ -41,31 +41,31 @@ apart : (gap : ℕ) → gap ≤ 2000 → wrapping_sub reading (65536 - gap) ≡ 
 unfolding wrapping_sub
 apart gap h = omega arith
 
-far : (gap : ℕ) → gap ≤ 2000 → age wrapping reading (65536 - gap) ≡ OptionU32.Some gap
+far : (gap : ℕ) → gap ≤ 2000 → age wrapping reading (65536 - gap) ≡ Some gap
 unfolding age
 far gap h = rw (apart gap h, lt-ltb gap (2 ^ 31) (omega arith))
 
-near_mark : (b : Bool) (gap : ℕ) → ltb 2000 gap ≡ b → up_to2000 (age wrapping reading (gap_mark (cond b OptionU32.None (OptionU32.Some gap)))) ≡ cond b OptionU32.None (OptionU32.Some gap)
+near_mark : (b : Bool) (gap : ℕ) → ltb 2000 gap ≡ b → up_to2000 (age wrapping reading (gap_mark (cond b None (Some gap)))) ≡ cond b None (Some gap)
 unfolding age wrapping_sub
 near_mark true gap e = refl
 near_mark false gap e = ap up_to2000 (far gap (ltb-false 2000 gap e)) ∙ rw e
 
-pub gap_mark_lem : (a : OptionU32) → up_to2000 (age wrapping reading (gap_mark (up_to2000 a))) ≡ up_to2000 a
+pub gap_mark_lem : (a : Option ℕ) → up_to2000 (age wrapping reading (gap_mark (up_to2000 a))) ≡ up_to2000 a
 unfolding age wrapping_sub
-gap_mark_lem OptionU32.None = refl
-gap_mark_lem (OptionU32.Some gap) = near_mark (ltb 2000 gap) gap refl
+gap_mark_lem None = refl
+gap_mark_lem (Some gap) = near_mark (ltb 2000 gap) gap refl
 
 -- the link: the marked heartbeat's age is 1, an absent one's 2^32 - 1
-pub above_mark_lem : (b : Bool) (o : OptionU32) → b ≡ ltb (above_mark b) (gcs_age wrapping reading (instead 65535 o))
+pub above_mark_lem : (b : Bool) (o : Option ℕ) → b ≡ ltb (above_mark b) (gcs_age wrapping reading (instead 65535 o))
 unfolding age wrapping_sub
-above_mark_lem true OptionU32.None = refl
-above_mark_lem true (OptionU32.Some y) = refl
-above_mark_lem false OptionU32.None = refl
-above_mark_lem false (OptionU32.Some y) = refl
+above_mark_lem true None = refl
+above_mark_lem true (Some y) = refl
+above_mark_lem false None = refl
+above_mark_lem false (Some y) = refl
 
-pub within_mark_lem : (b : Bool) (o : OptionU32) → b ≡ leb (gcs_age wrapping reading (instead 65535 o)) (within_mark b)
+pub within_mark_lem : (b : Bool) (o : Option ℕ) → b ≡ leb (gcs_age wrapping reading (instead 65535 o)) (within_mark b)
 unfolding age wrapping_sub
-within_mark_lem true OptionU32.None = refl
-within_mark_lem true (OptionU32.Some y) = refl
-within_mark_lem false OptionU32.None = refl
-within_mark_lem false (OptionU32.Some y) = refl
+within_mark_lem true None = refl
+within_mark_lem true (Some y) = refl
+within_mark_lem false None = refl
+within_mark_lem false (Some y) = refl

@@ -1,15 +1,10 @@
 -- The marks of instants in a row are those of the state and telemetry that hold them; a row is read back; each mark is below 2 ^ 32. Assumes nothing.
+use Rattle.std.specs.Prelude.{Option, Some, None, Float}
 use Prim.Native.Nat.{ℕ, ◌^◌, ◌<◌}
 use mathlib.Core.Path.{◌≡◌, refl}
 use mathlib.Core.Bool.{Bool, true, false}
 use native.Mathlib.Omega.{arith}
 use lib.ListN.{get_or}
-use Rattle.types.specs.declared.OptionU32.{OptionU32}
-use Rattle.types.specs.declared.OptionStampedF32.{OptionStampedF32}
-use Rattle.types.specs.declared.OptionStampedBool.{OptionStampedBool}
-use Rattle.types.specs.declared.OptionStampedLandedState.{OptionStampedLandedState}
-use Rattle.types.specs.declared.OptionPositionSample.{OptionPositionSample}
-use Rattle.types.specs.declared.OptionGpsSample.{OptionGpsSample}
 use Rattle.types.specs.declared.Telemetry.{Telemetry}
 use Rattle.time.specs.Time.{plain, age, fresh, hold_met}
 use Rattle.timers.specs.Timer.{started}
@@ -20,41 +15,45 @@ use Rattle.instants.specs.Own.{position_stamp, gps_stamp, value_stamp, flag_stam
 use Rattle.instants.specs.Listed.{timer_place, listed, unlisted, stamps_listed, stamps_unlisted}
 use Rattle.marks.specs.Marks.{held_now, fresh_now, sound_now, gap_now, up_to2000, held_mark, fresh_mark, gap_mark, marks, stamp_marks, marks_of, stamp_marks_of}
 use Rattle.marks.specs.Rows.{MarksClaim, BackClaim, BelowClaim}
+use Rattle.types.specs.declared.Stamped.{Stamped}
+use Rattle.types.specs.declared.LandedState.{LandedState}
+use Rattle.types.specs.declared.PositionSample.{PositionSample}
+use Rattle.types.specs.declared.GpsSample.{GpsSample}
 
 -- ---- a mark, in the place of what is held
 
 module _ (now x : ℕ) where
-  held : (o : OptionU32) (hold : ℕ) → instead (held_mark (hold_met plain now x hold)) o ≡ instead (held_mark (held_now plain now (instead x o) hold)) o
-  held OptionU32.None hold = refl
-  held (OptionU32.Some y) hold = refl
+  held : (o : Option ℕ) (hold : ℕ) → instead (held_mark (hold_met plain now x hold)) o ≡ instead (held_mark (held_now plain now (instead x o) hold)) o
+  held None hold = refl
+  held (Some y) hold = refl
 
-  sound : (o : OptionU32) → instead (fresh_mark (started (age plain now x))) o ≡ instead (fresh_mark (sound_now plain now (instead x o))) o
-  sound OptionU32.None = refl
-  sound (OptionU32.Some y) = refl
+  sound : (o : Option ℕ) → instead (fresh_mark (started (age plain now x))) o ≡ instead (fresh_mark (sound_now plain now (instead x o))) o
+  sound None = refl
+  sound (Some y) = refl
 
-  stored : (p : OptionPositionSample) → position_at (gap_mark (up_to2000 (age plain now x))) p ≡ position_at (gap_mark (gap_now plain now (position_stamp (position_at x p)))) p
-  stored OptionPositionSample.None = refl
-  stored (OptionPositionSample.Some p) = refl
+  stored : (p : Option PositionSample) → position_at (gap_mark (up_to2000 (age plain now x))) p ≡ position_at (gap_mark (gap_now plain now (position_stamp (position_at x p)))) p
+  stored None = refl
+  stored (Some p) = refl
 
-  position : (p : OptionPositionSample) (limit : ℕ) → position_at (fresh_mark (fresh plain now x limit)) p ≡ position_at (fresh_mark (fresh_now plain now (position_stamp (position_at x p)) limit)) p
-  position OptionPositionSample.None limit = refl
-  position (OptionPositionSample.Some p) limit = refl
+  position : (p : Option PositionSample) (limit : ℕ) → position_at (fresh_mark (fresh plain now x limit)) p ≡ position_at (fresh_mark (fresh_now plain now (position_stamp (position_at x p)) limit)) p
+  position None limit = refl
+  position (Some p) limit = refl
 
-  gps : (p : OptionGpsSample) (limit : ℕ) → gps_at (fresh_mark (fresh plain now x limit)) p ≡ gps_at (fresh_mark (fresh_now plain now (gps_stamp (gps_at x p)) limit)) p
-  gps OptionGpsSample.None limit = refl
-  gps (OptionGpsSample.Some p) limit = refl
+  gps : (p : Option GpsSample) (limit : ℕ) → gps_at (fresh_mark (fresh plain now x limit)) p ≡ gps_at (fresh_mark (fresh_now plain now (gps_stamp (gps_at x p)) limit)) p
+  gps None limit = refl
+  gps (Some p) limit = refl
 
-  value : (p : OptionStampedF32) (limit : ℕ) → value_at (fresh_mark (fresh plain now x limit)) p ≡ value_at (fresh_mark (fresh_now plain now (value_stamp (value_at x p)) limit)) p
-  value OptionStampedF32.None limit = refl
-  value (OptionStampedF32.Some t v) limit = refl
+  value : (p : Option (Stamped Float)) (limit : ℕ) → value_at (fresh_mark (fresh plain now x limit)) p ≡ value_at (fresh_mark (fresh_now plain now (value_stamp (value_at x p)) limit)) p
+  value None limit = refl
+  value (Some r) limit = refl
 
-  flag : (p : OptionStampedBool) (limit : ℕ) → flag_at (fresh_mark (fresh plain now x limit)) p ≡ flag_at (fresh_mark (fresh_now plain now (flag_stamp (flag_at x p)) limit)) p
-  flag OptionStampedBool.None limit = refl
-  flag (OptionStampedBool.Some t v) limit = refl
+  flag : (p : Option (Stamped Bool)) (limit : ℕ) → flag_at (fresh_mark (fresh plain now x limit)) p ≡ flag_at (fresh_mark (fresh_now plain now (flag_stamp (flag_at x p)) limit)) p
+  flag None limit = refl
+  flag (Some r) limit = refl
 
-  landed : (p : OptionStampedLandedState) (limit : ℕ) → landed_at (fresh_mark (fresh plain now x limit)) p ≡ landed_at (fresh_mark (fresh_now plain now (landed_stamp (landed_at x p)) limit)) p
-  landed OptionStampedLandedState.None limit = refl
-  landed (OptionStampedLandedState.Some t v) limit = refl
+  landed : (p : Option (Stamped LandedState)) (limit : ℕ) → landed_at (fresh_mark (fresh plain now x limit)) p ≡ landed_at (fresh_mark (fresh_now plain now (landed_stamp (landed_at x p)) limit)) p
+  landed None limit = refl
+  landed (Some r) limit = refl
 
 -- ---- all of them
 
@@ -121,9 +120,9 @@ fresh_below : (b : Bool) → fresh_mark b < 2 ^ 32
 fresh_below true = omega arith
 fresh_below false = omega arith
 
-gap_below : (o : OptionU32) → gap_mark o < 2 ^ 32
-gap_below OptionU32.None = omega arith
-gap_below (OptionU32.Some gap) = omega arith
+gap_below : (o : Option ℕ) → gap_mark o < 2 ^ 32
+gap_below None = omega arith
+gap_below (Some gap) = omega arith
 
 module _ (cfg : Config) (now : ℕ) (i : Instants) (j : Stamps) where
   hold : (x ms : ℕ) → held_mark (hold_met plain now x ms) < 2 ^ 32

@@ -1,6 +1,5 @@
 -- Document 02, L7: how each test of the clock that doesn't wrap comes out, and the instants and durations that mark it for the 32-bit step. Assumes nothing.
-use Rattle.std.specs.Prelude.{ℕ, ◌-◌, min, Bool, true, false, cond, leb, ltb}
-use Rattle.types.specs.declared.OptionU32.{OptionU32}
+use Rattle.std.specs.Prelude.{ℕ, ◌-◌, min, Bool, true, false, cond, leb, ltb, Option, Some, None}
 use Rattle.types.specs.declared.Telemetry.{Telemetry}
 use Rattle.time.specs.Time.{Clock, plain, age, fresh, hold_met}
 use Rattle.timers.specs.Timer.{since_or, started}
@@ -13,28 +12,28 @@ use Rattle.instants.specs.Own.{position_stamp, gps_stamp, value_stamp, flag_stam
 -- ---- the tests that a step makes of an instant that may be absent
 
 -- a hold, of a timer that starts now where it had not started
-abbrev pub held_now : Clock → ℕ → OptionU32 → ℕ → Bool
+abbrev pub held_now : Clock → ℕ → Option ℕ → ℕ → Bool
 held_now ck now since hold = hold_met ck now (since_or since now) hold
 
 -- a reading against its limit
-abbrev pub fresh_now : Clock → ℕ → OptionU32 → ℕ → Bool
-fresh_now ck now OptionU32.None limit = false
-fresh_now ck now (OptionU32.Some t) limit = fresh ck now t limit
+abbrev pub fresh_now : Clock → ℕ → Option ℕ → ℕ → Bool
+fresh_now ck now None limit = false
+fresh_now ck now (Some t) limit = fresh ck now t limit
 
 -- an age against the last sound reading
-abbrev pub sound_now : Clock → ℕ → OptionU32 → Bool
-sound_now ck now OptionU32.None = true
-sound_now ck now (OptionU32.Some last) = started (age ck now last)
+abbrev pub sound_now : Clock → ℕ → Option ℕ → Bool
+sound_now ck now None = true
+sound_now ck now (Some last) = started (age ck now last)
 
 -- the stored sample's gap, as far as the filter reads it
-abbrev pub up_to2000 : OptionU32 → OptionU32
-up_to2000 OptionU32.None = OptionU32.None
-up_to2000 (OptionU32.Some gap) = cond (ltb 2000 gap) OptionU32.None (OptionU32.Some gap)
+abbrev pub up_to2000 : Option ℕ → Option ℕ
+up_to2000 None = None
+up_to2000 (Some gap) = cond (ltb 2000 gap) None (Some gap)
 
 -- so of a stored sample's stamp
-abbrev pub gap_now : Clock → ℕ → OptionU32 → OptionU32
-gap_now ck now OptionU32.None = OptionU32.None
-gap_now ck now (OptionU32.Some t) = up_to2000 (age ck now t)
+abbrev pub gap_now : Clock → ℕ → Option ℕ → Option ℕ
+gap_now ck now None = None
+gap_now ck now (Some t) = up_to2000 (age ck now t)
 
 -- ---- the marks
 
@@ -51,9 +50,9 @@ abbrev pub fresh_mark : Bool → ℕ
 fresh_mark ok = cond ok 65536 65537
 
 -- a gap up to 2000 is kept; any other has no age
-abbrev pub gap_mark : OptionU32 → ℕ
-gap_mark OptionU32.None = 65538
-gap_mark (OptionU32.Some gap) = 65536 - gap
+abbrev pub gap_mark : Option ℕ → ℕ
+gap_mark None = 65538
+gap_mark (Some gap) = 65536 - gap
 
 -- a limit of the link that the heartbeat's age is above, or not: the marked age is 1, an absent heartbeat's stays 2^32 - 1
 abbrev pub above_mark : Bool → ℕ

@@ -1,8 +1,7 @@
 // Instants and durations of 32 bits that mark how each test of the 64-bit clock came out (specs/Marks.antt).
-#![tactic(auto)]
+#![tactic(auto, unfolding(crate::specs::Marks::marked_by, crate::specs::Marks::marks, crate::specs::Marks::marks_of, crate::specs::Marks::stamp_marks, crate::specs::Marks::stamp_marks_of, time::specs::Time::age, time::specs::Time::fresh, time::specs::Time::hold_met))]
 
-ghost use Rattle.std.specs.Prelude.{◌≡◌, cond, min, leb, ltb};
-ghost use Rattle.types.specs.declared.OptionU32.{OptionU32};
+ghost use Rattle.std.specs.Prelude.{◌≡◌, leb, ltb};
 ghost use Rattle.time.specs.Time.{plain, age, fresh, hold_met};
 ghost use Rattle.timers.specs.Timer.{started};
 ghost use Rattle.triggers.specs.Families.{gcs_age};
@@ -67,29 +66,22 @@ fn within_mark(limit: u32, age: u64) -> u32
     if age <= limit as u64 { 4294967295 } else { 0 }
 }
 
-fn at_most_one(hold: u32) -> u32
-    ensures { result ≡ min hold 1 }
-{
-    if hold < 1 { hold } else { 1 }
-}
-
 // ---- the heartbeat
 
 // An absent heartbeat, and one without an age, count as the most.
-pub fn heartbeat_age(now: u64, present: bool, at: u64) -> u64
-    ensures { result ≡ gcs_age plain now (cond present (OptionU32.Some at) OptionU32.None) }
+pub fn heartbeat_age(now: u64, heartbeat: Option<u64>) -> u64
+    ensures { result ≡ gcs_age plain now heartbeat }
 {
-    if present {
-        if now < at { 4294967295 } else { now - at }
-    } else {
-        4294967295
+    match heartbeat {
+        Some(at) if at <= now => now - at,
+        _ => 4294967295,
     }
 }
 
 // ---- a row of them each
 
-pub fn state_marks(cfg: Config, now: u64, x: [u64; 30]) -> [u32; 30]
-    ensures { result ≡ listed (marks_of cfg now (unlisted x)) }
+pub fn state_marks(cfg: &Config, now: u64, x: &[u64; 30]) -> [u32; 30]
+    ensures { result ≡ listed (marks_of cfg.now now (unlisted x.now)) }
 {
     [
         held_mark(now, x[0], cfg.gcs_clear_hold_ms),
@@ -125,8 +117,8 @@ pub fn state_marks(cfg: Config, now: u64, x: [u64; 30]) -> [u32; 30]
     ]
 }
 
-pub fn telemetry_marks(cfg: Config, x: [u64; 11]) -> [u32; 11]
-    ensures { result ≡ stamps_listed (stamp_marks_of cfg (stamps_unlisted x)) }
+pub fn telemetry_marks(cfg: &Config, x: &[u64; 11]) -> [u32; 11]
+    ensures { result ≡ stamps_listed (stamp_marks_of cfg.now (stamps_unlisted x.now)) }
 {
     let now = x[0];
     [
@@ -146,72 +138,41 @@ pub fn telemetry_marks(cfg: Config, x: [u64; 11]) -> [u32; 11]
 
 // ---- the configuration
 
-pub fn mark_config(cfg: Config, age: u64) -> Config
-    ensures { result ≡ marked_by cfg age }
+pub fn mark_config(cfg: &Config, age: u64) -> Config
+    ensures { result ≡ marked_by cfg.now age }
 {
     Config {
-        cell_count: cfg.cell_count,
-        usable_capacity_wh: cfg.usable_capacity_wh,
-        rc_required: cfg.rc_required,
-        pos_fresh_ms: cfg.pos_fresh_ms,
-        gps_fresh_ms: cfg.gps_fresh_ms,
-        status_fresh_ms: cfg.status_fresh_ms,
-        battery_fresh_ms: cfg.battery_fresh_ms,
-        recovery_hold_ms: at_most_one(cfg.recovery_hold_ms),
+        recovery_hold_ms: cfg.recovery_hold_ms.min(1),
         gcs_warn_ms: above_mark(cfg.gcs_warn_ms, age),
         gcs_hold_ms: above_mark(cfg.gcs_hold_ms, age),
         gcs_rtl_ms: above_mark(cfg.gcs_rtl_ms, age),
         gcs_clear_ms: within_mark(cfg.gcs_clear_ms, age),
-        gcs_clear_hold_ms: at_most_one(cfg.gcs_clear_hold_ms),
-        rc_lost_set_ms: at_most_one(cfg.rc_lost_set_ms),
-        rc_lost_clear_ms: at_most_one(cfg.rc_lost_clear_ms),
-        gps_degraded_set_ms: at_most_one(cfg.gps_degraded_set_ms),
-        gps_degraded_clear_ms: at_most_one(cfg.gps_degraded_clear_ms),
-        gps_lost_set_ms: at_most_one(cfg.gps_lost_set_ms),
-        gps_lost_clear_ms: at_most_one(cfg.gps_lost_clear_ms),
-        ekf_unhealthy_set_ms: at_most_one(cfg.ekf_unhealthy_set_ms),
-        ekf_unhealthy_clear_ms: at_most_one(cfg.ekf_unhealthy_clear_ms),
-        fence_approach_m: cfg.fence_approach_m,
-        fence_approach_clear_m: cfg.fence_approach_clear_m,
-        fence_breach_set_ms: at_most_one(cfg.fence_breach_set_ms),
-        fence_breach_clear_m: cfg.fence_breach_clear_m,
-        fence_breach_clear_ms: at_most_one(cfg.fence_breach_clear_ms),
-        alt_max_clear_m: cfg.alt_max_clear_m,
-        alt_max_set_ms: at_most_one(cfg.alt_max_set_ms),
-        alt_max_clear_hold_ms: at_most_one(cfg.alt_max_clear_hold_ms),
-        alt_min_home_radius_m: cfg.alt_min_home_radius_m,
-        alt_min_set_ms: at_most_one(cfg.alt_min_set_ms),
-        alt_min_clear_m: cfg.alt_min_clear_m,
-        alt_min_clear_ms: at_most_one(cfg.alt_min_clear_ms),
-        stale_battery_clear_ms: at_most_one(cfg.stale_battery_clear_ms),
-        battery_warn_pct: cfg.battery_warn_pct,
-        battery_warn_clear_pct: cfg.battery_warn_clear_pct,
-        battery_warn_set_ms: at_most_one(cfg.battery_warn_set_ms),
-        battery_warn_clear_ms: at_most_one(cfg.battery_warn_clear_ms),
-        battery_low_pct: cfg.battery_low_pct,
-        battery_low_clear_pct: cfg.battery_low_clear_pct,
-        battery_low_set_ms: at_most_one(cfg.battery_low_set_ms),
-        battery_low_clear_ms: at_most_one(cfg.battery_low_clear_ms),
-        battery_critical_pct: cfg.battery_critical_pct,
-        battery_critical_v_per_cell: cfg.battery_critical_v_per_cell,
-        battery_critical_set_ms: at_most_one(cfg.battery_critical_set_ms),
-        energy_marginal_wh: cfg.energy_marginal_wh,
-        energy_marginal_clear_wh: cfg.energy_marginal_clear_wh,
-        energy_marginal_set_ms: at_most_one(cfg.energy_marginal_set_ms),
-        energy_marginal_clear_ms: at_most_one(cfg.energy_marginal_clear_ms),
-        energy_infeasible_set_ms: at_most_one(cfg.energy_infeasible_set_ms),
-        invalid_input_clear_ms: at_most_one(cfg.invalid_input_clear_ms),
-        disarm_hold_ms: at_most_one(cfg.disarm_hold_ms),
-        v_cruise: cfg.v_cruise,
-        p_cruise: cfg.p_cruise,
-        k_wind: cfg.k_wind,
-        v_climb: cfg.v_climb,
-        p_climb: cfg.p_climb,
-        v_desc: cfg.v_desc,
-        p_desc: cfg.p_desc,
-        h_rtl: cfg.h_rtl,
-        reserve_wh: cfg.reserve_wh,
-        v_max: cfg.v_max,
-        keeps_raised: cfg.keeps_raised,
+        gcs_clear_hold_ms: cfg.gcs_clear_hold_ms.min(1),
+        rc_lost_set_ms: cfg.rc_lost_set_ms.min(1),
+        rc_lost_clear_ms: cfg.rc_lost_clear_ms.min(1),
+        gps_degraded_set_ms: cfg.gps_degraded_set_ms.min(1),
+        gps_degraded_clear_ms: cfg.gps_degraded_clear_ms.min(1),
+        gps_lost_set_ms: cfg.gps_lost_set_ms.min(1),
+        gps_lost_clear_ms: cfg.gps_lost_clear_ms.min(1),
+        ekf_unhealthy_set_ms: cfg.ekf_unhealthy_set_ms.min(1),
+        ekf_unhealthy_clear_ms: cfg.ekf_unhealthy_clear_ms.min(1),
+        fence_breach_set_ms: cfg.fence_breach_set_ms.min(1),
+        fence_breach_clear_ms: cfg.fence_breach_clear_ms.min(1),
+        alt_max_set_ms: cfg.alt_max_set_ms.min(1),
+        alt_max_clear_hold_ms: cfg.alt_max_clear_hold_ms.min(1),
+        alt_min_set_ms: cfg.alt_min_set_ms.min(1),
+        alt_min_clear_ms: cfg.alt_min_clear_ms.min(1),
+        stale_battery_clear_ms: cfg.stale_battery_clear_ms.min(1),
+        battery_warn_set_ms: cfg.battery_warn_set_ms.min(1),
+        battery_warn_clear_ms: cfg.battery_warn_clear_ms.min(1),
+        battery_low_set_ms: cfg.battery_low_set_ms.min(1),
+        battery_low_clear_ms: cfg.battery_low_clear_ms.min(1),
+        battery_critical_set_ms: cfg.battery_critical_set_ms.min(1),
+        energy_marginal_set_ms: cfg.energy_marginal_set_ms.min(1),
+        energy_marginal_clear_ms: cfg.energy_marginal_clear_ms.min(1),
+        energy_infeasible_set_ms: cfg.energy_infeasible_set_ms.min(1),
+        invalid_input_clear_ms: cfg.invalid_input_clear_ms.min(1),
+        disarm_hold_ms: cfg.disarm_hold_ms.min(1),
+        ..*cfg
     }
 }

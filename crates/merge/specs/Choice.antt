@@ -1,14 +1,13 @@
 -- Document 02, L10: which of two radios' readings is taken. One rule over whether a reading is present, whether it is kept and its age. Assumes nothing.
-use Rattle.std.specs.Prelude.{ℕ, Bool, true, false, cond, ◌&&◌, ◌||◌, ltb}
-use Rattle.types.specs.declared.OptionU32.{OptionU32}
+use Rattle.std.specs.Prelude.{◌≡◌, ℕ, Bool, true, false, cond, ◌&&◌, ◌||◌, nat_lt, Option, Some, None, is_some, option_and_then}
 use Rattle.time.specs.Time.{wrapping, age}
 use Rattle.merge.specs.declared.Standing.{Standing}
 
 -- "of two the younger wins; one with an age beats one without": the first of these two ages wins over the second
-abbrev pub younger : OptionU32 → OptionU32 → Bool
-younger OptionU32.None y = false
-younger (OptionU32.Some x) OptionU32.None = true
-younger (OptionU32.Some x) (OptionU32.Some y) = ltb x y
+abbrev pub younger : Option ℕ → Option ℕ → Bool
+younger None y = false
+younger (Some x) None = true
+younger (Some x) (Some y) = nat_lt x y
 
 -- of two that are present: "A reading that `validate_telemetry` would drop .. loses to one it would keep, before age is looked at." "At a tie the
 -- first radio's reading is taken."
@@ -19,18 +18,14 @@ second_of_two a b = let wins = younger b.age a.age in cond a.kept (b.kept && win
 unfoldable pub second_taken : Standing → Standing → Bool
 second_taken a b = cond a.present (b.present && second_of_two a b) b.present
 
-abbrev pub is_some : OptionU32 → Bool
-is_some OptionU32.None = false
-is_some (OptionU32.Some t) = true
-
-abbrev pub age_of : ℕ → OptionU32 → OptionU32
-age_of now OptionU32.None = OptionU32.None
-age_of now (OptionU32.Some t) = age wrapping now t
-
--- a reading's standing at `now`, from its stamp, which is absent where the reading is, and whether `validate_telemetry` keeps it
-unfoldable pub standing : ℕ → OptionU32 → Bool → Standing
-standing now stamp kept = record { present = is_some stamp; kept = kept; age = age_of now stamp }
+-- the standing at `now` of a reading, by its stamp, and whether `validate_telemetry` keeps it
+unfoldable pub standing : {A : Type 0} → (A → ℕ) → ℕ → Option A → Bool → Standing
+standing stamp now x kept = record { present = is_some x; kept = kept; age = option_and_then (λ r. age wrapping now (stamp r)) x }
 
 -- the rule for a reading of any type: its stamp, and whether it is kept
-unfoldable pub chosen : {A : Type 0} → (A → OptionU32) → (A → Bool) → ℕ → A → A → A
-chosen stamp kept now a b = cond (second_taken (standing now (stamp a) (kept a)) (standing now (stamp b) (kept b))) b a
+unfoldable pub chosen : {A : Type 0} → (A → ℕ) → (Option A → Bool) → ℕ → Option A → Option A → Option A
+chosen stamp kept now a b = cond (second_taken (standing stamp now a (kept a)) (standing stamp now b (kept b))) b a
+
+-- each result that a test may give is that of k
+abbrev pub Computes : {A : Type 0} → (A → Bool → Type 0) → (A → Bool) → Type 0
+Computes {A} gives k = (x : A) (r : Bool) → gives x r → r ≡ k x

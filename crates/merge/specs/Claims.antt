@@ -1,62 +1,61 @@
 -- What L10 says of the rule and of the merged Telemetry, as statements of their own. Assumes nothing.
-use Rattle.std.specs.Prelude.{ℕ, ◌≡◌, Bool, true, false, ◌&&◌, ◌||◌, ◌⊎◌, ltb, Float}
-use Rattle.types.specs.declared.OptionU32.{OptionU32}
+use Rattle.std.specs.Prelude.{ℕ, ◌≡◌, Bool, true, false, ◌&&◌, ◌||◌, ◌⊎◌, nat_lt, Float, Option, Some, None, is_some}
 use Rattle.types.specs.declared.Telemetry.{Telemetry}
 use Rattle.validate.specs.Bounds.{position_ok, gps_ok, percent_ok, remaining_ok}
 use Rattle.merge.specs.declared.Standing.{Standing}
-use Rattle.merge.specs.Choice.{is_some, second_taken}
-use Rattle.merge.specs.Merge.{position_stamp, gps_stamp, f32_stamp, bool_stamp, landed_stamp, heartbeat_stamp, always}
+use Rattle.merge.specs.Choice.{second_taken}
+use Rattle.merge.specs.Merge.{always}
 
-abbrev pub stands : Bool → Bool → OptionU32 → Standing
+abbrev pub stands : Bool → Bool → Option ℕ → Standing
 stands present kept age = record { present = present; kept = kept; age = age }
 
 -- the sentences of the rule, one by one
 pub record Rule : Type 0 where
   -- "a present one beats an absent one"
-  pub absent_second : (k l : Bool) (x y : OptionU32) → second_taken (stands true k x) (stands false l y) ≡ false
-  pub absent_first : (k l : Bool) (x y : OptionU32) → second_taken (stands false k x) (stands true l y) ≡ true
+  pub absent_second : (k l : Bool) (x y : Option ℕ) → second_taken (stands true k x) (stands false l y) ≡ false
+  pub absent_first : (k l : Bool) (x y : Option ℕ) → second_taken (stands false k x) (stands true l y) ≡ true
   -- one that is dropped "loses to one it would keep, before age is looked at"
-  pub dropped_second : (x y : OptionU32) → second_taken (stands true true x) (stands true false y) ≡ false
-  pub dropped_first : (x y : OptionU32) → second_taken (stands true false x) (stands true true y) ≡ true
+  pub dropped_second : (x y : Option ℕ) → second_taken (stands true true x) (stands true false y) ≡ false
+  pub dropped_first : (x y : Option ℕ) → second_taken (stands true false x) (stands true true y) ≡ true
   -- "of two the younger wins"
-  pub younger : (k : Bool) (m n : ℕ) → second_taken (stands true k (OptionU32.Some m)) (stands true k (OptionU32.Some n)) ≡ ltb n m
+  pub younger : (k : Bool) (m n : ℕ) → second_taken (stands true k (Some m)) (stands true k (Some n)) ≡ nat_lt n m
   -- "one with an age beats one without"
-  pub ageless_second : (k : Bool) (m : ℕ) → second_taken (stands true k (OptionU32.Some m)) (stands true k OptionU32.None) ≡ false
-  pub ageless_first : (k : Bool) (n : ℕ) → second_taken (stands true k OptionU32.None) (stands true k (OptionU32.Some n)) ≡ true
+  pub ageless_second : (k : Bool) (m : ℕ) → second_taken (stands true k (Some m)) (stands true k None) ≡ false
+  pub ageless_first : (k : Bool) (n : ℕ) → second_taken (stands true k None) (stands true k (Some n)) ≡ true
   -- "At a tie the first radio's reading is taken."
   pub tie : (a : Standing) → second_taken a a ≡ false
 
 -- a merged reading is the first radio's or the second's, and is present where one of theirs is
-abbrev pub FromBoth : {A : Type 0} → (A → OptionU32) → A → A → A → Type 0
-FromBoth stamp r a b = ((r ≡ a) ⊎ (r ≡ b)) × (is_some (stamp r) ≡ is_some (stamp a) || is_some (stamp b))
+abbrev pub FromBoth : {A : Type 0} → Option A → Option A → Option A → Type 0
+FromBoth r a b = ((r ≡ a) ⊎ (r ≡ b)) × (is_some r ≡ is_some a || is_some b)
 
 -- "The merged frame holds no reading that neither had .. What isn't optional is the first radio's."
 pub record Merged (a b m : Telemetry) : Type 0 where
   pub now : m.now_ms ≡ a.now_ms
-  pub position : FromBoth position_stamp m.position a.position b.position
-  pub gps : FromBoth gps_stamp m.gps a.gps b.gps
-  pub voltage : FromBoth f32_stamp m.battery.voltage_v a.battery.voltage_v b.battery.voltage_v
-  pub percent : FromBoth f32_stamp m.battery.percent a.battery.percent b.battery.percent
-  pub remaining : FromBoth f32_stamp m.battery.remaining_wh a.battery.remaining_wh b.battery.remaining_wh
-  pub heartbeat : FromBoth heartbeat_stamp m.gcs_heartbeat_ms a.gcs_heartbeat_ms b.gcs_heartbeat_ms
-  pub armed : FromBoth bool_stamp m.armed a.armed b.armed
-  pub landed : FromBoth landed_stamp m.landed a.landed b.landed
-  pub rc_ok : FromBoth bool_stamp m.rc_ok a.rc_ok b.rc_ok
-  pub ekf_ok : FromBoth bool_stamp m.ekf_ok a.ekf_ok b.ekf_ok
+  pub position : FromBoth m.position a.position b.position
+  pub gps : FromBoth m.gps a.gps b.gps
+  pub voltage : FromBoth m.battery.voltage_v a.battery.voltage_v b.battery.voltage_v
+  pub percent : FromBoth m.battery.percent a.battery.percent b.battery.percent
+  pub remaining : FromBoth m.battery.remaining_wh a.battery.remaining_wh b.battery.remaining_wh
+  pub heartbeat : FromBoth m.gcs_heartbeat_ms a.gcs_heartbeat_ms b.gcs_heartbeat_ms
+  pub armed : FromBoth m.armed a.armed b.armed
+  pub landed : FromBoth m.landed a.landed b.landed
+  pub rc_ok : FromBoth m.rc_ok a.rc_ok b.rc_ok
+  pub ekf_ok : FromBoth m.ekf_ok a.ekf_ok b.ekf_ok
 
 -- a reading is there after `validate_telemetry` where it was there and is kept
-abbrev pub Keeps : {A : Type 0} → (A → OptionU32) → (A → Bool) → A → A → Type 0
-Keeps stamp kept sent valid = is_some (stamp valid) ≡ is_some (stamp sent) && kept sent
+abbrev pub Keeps : {A : Type 0} → (Option A → Bool) → Option A → Option A → Type 0
+Keeps kept sent valid = is_some valid ≡ is_some sent && kept sent
 
 -- "A reading that `validate_telemetry` would drop", of a Telemetry t of which v is left
 pub record Kept (cap : Float) (t v : Telemetry) : Type 0 where
-  pub position : Keeps position_stamp position_ok t.position v.position
-  pub gps : Keeps gps_stamp gps_ok t.gps v.gps
-  pub voltage : Keeps f32_stamp percent_ok t.battery.voltage_v v.battery.voltage_v
-  pub percent : Keeps f32_stamp percent_ok t.battery.percent v.battery.percent
-  pub remaining : Keeps f32_stamp (λ r. remaining_ok r cap) t.battery.remaining_wh v.battery.remaining_wh
-  pub heartbeat : Keeps heartbeat_stamp always t.gcs_heartbeat_ms v.gcs_heartbeat_ms
-  pub armed : Keeps bool_stamp always t.armed v.armed
-  pub landed : Keeps landed_stamp always t.landed v.landed
-  pub rc_ok : Keeps bool_stamp always t.rc_ok v.rc_ok
-  pub ekf_ok : Keeps bool_stamp always t.ekf_ok v.ekf_ok
+  pub position : Keeps position_ok t.position v.position
+  pub gps : Keeps gps_ok t.gps v.gps
+  pub voltage : Keeps percent_ok t.battery.voltage_v v.battery.voltage_v
+  pub percent : Keeps percent_ok t.battery.percent v.battery.percent
+  pub remaining : Keeps (λ r. remaining_ok r cap) t.battery.remaining_wh v.battery.remaining_wh
+  pub heartbeat : Keeps always t.gcs_heartbeat_ms v.gcs_heartbeat_ms
+  pub armed : Keeps always t.armed v.armed
+  pub landed : Keeps always t.landed v.landed
+  pub rc_ok : Keeps always t.rc_ok v.rc_ok
+  pub ekf_ok : Keeps always t.ekf_ok v.ekf_ok

@@ -1,27 +1,20 @@
 -- A merged Telemetry has its numbers within their types and its floats in binary32, as the two that were read have: so its frame reads back. Assumes nothing.
+use Rattle.std.specs.Prelude.{Some, None, unwrap_or}
 use Prim.Native.Nat.{ℕ, ◌+◌, ◌<◌, ◌^◌}
 use mathlib.Core.Path.{◌≡◌}
 use mathlib.Core.Bool.{Bool, true, false, cond}
 use mathlib.Core.List.{List, ◌++◌}
 use lib.Dec.{T, lit<}
-use lib.Ieee.{Float, binary32, fits}
+use lib.Ieee.{Float, binary32, fits, of_bits}
 use lib.Ieee.Bits.{of_bits-fits}
 use Rattle.types.specs.declared.GpsFix.{GpsFix}
 use Rattle.types.specs.declared.LandedState.{LandedState}
-use Rattle.types.specs.declared.OptionU8.{OptionU8}
-use Rattle.types.specs.declared.OptionU32.{OptionU32}
-use Rattle.types.specs.declared.OptionF32.{OptionF32}
-use Rattle.types.specs.declared.OptionPositionSample.{OptionPositionSample}
-use Rattle.types.specs.declared.OptionGpsSample.{OptionGpsSample}
-use Rattle.types.specs.declared.OptionStampedF32.{OptionStampedF32}
-use Rattle.types.specs.declared.OptionStampedBool.{OptionStampedBool}
-use Rattle.types.specs.declared.OptionStampedLandedState.{OptionStampedLandedState}
 use Rattle.types.specs.declared.Telemetry.{Telemetry}
 use Rattle.types.specs.Numbers.{fix_number, landed_number}
 use Rattle.wire.specs.Fields.{Bytes, u8_at, flag_at, u32_at, f32_at}
 use Rattle.wire.specs.Cell.{Within}
 use Rattle.wire.proofs.Fields.{u32_lt}
-use Rattle.options.specs.Options.{u8_or_zero, option_u8_at, option_u32_at, f32_or_zero, option_f32_at}
+use Rattle.options.specs.Options.{option_u8_at, option_u32_at, option_f32_at}
 use Rattle.options.specs.Position.{vec3_at, option_position_at, position_cells}
 use Rattle.frame_telemetry.specs.declared.TelemetryRead.{TelemetryRead}
 use Rattle.frame_telemetry.specs.Readings.{fix_at, landed_at, option_gps_at, gps_cells, u32_cells, stamped_f32_at, stamped_f32_cells, stamped_bool_at, stamped_bool_cells, stamped_landed_at, stamped_landed_cells}
@@ -61,7 +54,7 @@ present : {A : Type 0} (P : A → Type 0) (f : Bool) (some none : A) → P some 
 present P true some none g h = g
 present P false some none g h = h
 
-zero_fits : T (fits binary32 (f32_or_zero OptionF32.None))
+zero_fits : T (fits binary32 (unwrap_or None (of_bits binary32 0)))
 zero_fits = of_bits-fits binary32 0
 
 module _ (s : List ℕ) (b : Bytes s) where
@@ -73,19 +66,19 @@ module _ (s : List ℕ) (b : Bytes s) where
   unfolding f32_at
   f32_fits i = of_bits-fits binary32 (u32_at s i)
 
-  u8_at_lem : (i : ℕ) → u8_or_zero (option_u8_at s i) < 2 ^ 8
+  u8_at_lem : (i : ℕ) → unwrap_or (option_u8_at s i) 0 < 2 ^ 8
   unfolding option_u8_at
-  u8_at_lem i = present (λ o. u8_or_zero o < 2 ^ 8) (flag_at s i) (OptionU8.Some (u8_at s (i + 1))) OptionU8.None (byte_lt (i + 1)) (lit< tt)
+  u8_at_lem i = present (λ o. unwrap_or o 0 < 2 ^ 8) (flag_at s i) (Some (u8_at s (i + 1))) None (byte_lt (i + 1)) (lit< tt)
 
-  f32_at_lem : (i : ℕ) → T (fits binary32 (f32_or_zero (option_f32_at s i)))
+  f32_at_lem : (i : ℕ) → T (fits binary32 (unwrap_or (option_f32_at s i) (of_bits binary32 0)))
   unfolding option_f32_at
-  f32_at_lem i = present (λ o. T (fits binary32 (f32_or_zero o))) (flag_at s i) (OptionF32.Some (f32_at s (i + 1))) OptionF32.None (f32_fits (i + 1)) zero_fits
+  f32_at_lem i = present (λ o. T (fits binary32 (unwrap_or o (of_bits binary32 0)))) (flag_at s i) (Some (f32_at s (i + 1))) None (f32_fits (i + 1)) zero_fits
 
   position_at : (i : ℕ) → Within (position_cells (option_position_at s i))
   unfolding option_position_at vec3_at
   position_at i =
       present (λ o. Within (position_cells o)) (flag_at s i)
-      (OptionPositionSample.Some (record { t_ms = u32_at s (i + 1); pos = vec3_at s (i + 5); vel = vec3_at s (i + 17) })) OptionPositionSample.None
+      (Some (record { t_ms = u32_at s (i + 1); pos = vec3_at s (i + 5); vel = vec3_at s (i + 17) })) None
       (u32_lt s (i + 1) b, (f32_fits (i + 5), (f32_fits (i + 5 + 4), (f32_fits (i + 5 + 8), (f32_fits (i + 17), (f32_fits (i + 17 + 4), (f32_fits (i + 17 + 8), tt)))))))
       (lit< tt, (zero_fits, (zero_fits, (zero_fits, (zero_fits, (zero_fits, (zero_fits, tt)))))))
 
@@ -93,32 +86,32 @@ module _ (s : List ℕ) (b : Bytes s) where
   unfolding option_gps_at
   gps_at_lem i =
       present (λ o. Within (gps_cells o)) (flag_at s i)
-      (OptionGpsSample.Some (record { t_ms = u32_at s (i + 1); fix = fix_at s (i + 5); sats = option_u8_at s (i + 6); hdop = option_f32_at s (i + 8) })) OptionGpsSample.None
+      (Some (record { t_ms = u32_at s (i + 1); fix = fix_at s (i + 5); sats = option_u8_at s (i + 6); hdop = option_f32_at s (i + 8) })) None
       (u32_lt s (i + 1) b, (fix_within (fix_at s (i + 5)), (u8_at_lem (i + 6), (f32_at_lem (i + 8), tt))))
       (lit< tt, (lit< tt, (lit< tt, (zero_fits, tt))))
 
   stamped_f32_at_lem : (i : ℕ) → Within (stamped_f32_cells (stamped_f32_at s i))
   unfolding stamped_f32_at
   stamped_f32_at_lem i =
-      present (λ o. Within (stamped_f32_cells o)) (flag_at s i) (OptionStampedF32.Some (u32_at s (i + 1)) (f32_at s (i + 5))) OptionStampedF32.None
+      present (λ o. Within (stamped_f32_cells o)) (flag_at s i) (Some (record { t_ms = u32_at s (i + 1); value = f32_at s (i + 5) })) None
       (u32_lt s (i + 1) b, (f32_fits (i + 5), tt))
       (lit< tt, (zero_fits, tt))
 
   heartbeat_at : (i : ℕ) → Within (u32_cells (option_u32_at s i))
   unfolding option_u32_at
-  heartbeat_at i = present (λ o. Within (u32_cells o)) (flag_at s i) (OptionU32.Some (u32_at s (i + 1))) OptionU32.None (u32_lt s (i + 1) b, tt) (lit< tt, tt)
+  heartbeat_at i = present (λ o. Within (u32_cells o)) (flag_at s i) (Some (u32_at s (i + 1))) None (u32_lt s (i + 1) b, tt) (lit< tt, tt)
 
   stamped_bool_at_lem : (i : ℕ) → Within (stamped_bool_cells (stamped_bool_at s i))
   unfolding stamped_bool_at
   stamped_bool_at_lem i =
-      present (λ o. Within (stamped_bool_cells o)) (flag_at s i) (OptionStampedBool.Some (u32_at s (i + 1)) (flag_at s (i + 5))) OptionStampedBool.None
+      present (λ o. Within (stamped_bool_cells o)) (flag_at s i) (Some (record { t_ms = u32_at s (i + 1); value = flag_at s (i + 5) })) None
       (u32_lt s (i + 1) b, tt)
       (lit< tt, tt)
 
   stamped_landed_at_lem : (i : ℕ) → Within (stamped_landed_cells (stamped_landed_at s i))
   unfolding stamped_landed_at
   stamped_landed_at_lem i =
-      present (λ o. Within (stamped_landed_cells o)) (flag_at s i) (OptionStampedLandedState.Some (u32_at s (i + 1)) (landed_at s (i + 5))) OptionStampedLandedState.None
+      present (λ o. Within (stamped_landed_cells o)) (flag_at s i) (Some (record { t_ms = u32_at s (i + 1); value = landed_at s (i + 5) })) None
       (u32_lt s (i + 1) b, (landed_within (landed_at s (i + 5)), tt))
       (lit< tt, (lit< tt, tt))
 

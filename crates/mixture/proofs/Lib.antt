@@ -1,2 +1,2 @@
+-- The counts, and what any step shows.
 pub mod Counts
-pub mod Numbered

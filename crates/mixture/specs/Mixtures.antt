@@ -1,10 +1,9 @@
 -- Document 02, L13: "how many of the 200 mixtures of previous action, wanted action, valid position, clock fault and elapsed
 -- recovery end in each action". Assumes nothing.
-use Rattle.std.specs.Prelude.{ℕ, ◌+◌, ◌/◌, ◌%◌, Bool, true, false, not, ◌&&◌, cond, List, [], ◌∷◌, ◌++◌, ◌≡◌, eqb, length, get_or}
+use Rattle.std.specs.Prelude.{ℕ, ◌/◌, ◌%◌, Bool, true, false, not, ◌&&◌, List, [], ◌∷◌, ◌≡◌, ◌==◌, length, slice_index_or, flat_map, count_by, Some}
 use Rattle.types.specs.declared.Action.{Action}
 use Rattle.types.specs.declared.Reason.{Reason}
 use Rattle.types.specs.declared.Request.{Request}
-use Rattle.types.specs.declared.OptionU32.{OptionU32}
 use Rattle.types.specs.Numbers.{rank, actions}
 use Rattle.time.specs.Time.{Clock, wrapping, hold_met}
 use Rattle.arbiter.specs.declared.ArbiterState.{ArbiterState}
@@ -21,7 +20,7 @@ reading_of false = 0
 
 -- the previous action was shown, and a recovery began at 0
 abbrev pub before : Action → ArbiterState
-before p = record { prev_output = p; prev_reason = Reason.None; recovery_since_ms = OptionU32.Some 0 }
+before p = record { prev_output = p; prev_reason = Reason.None; recovery_since_ms = Some 0 }
 
 -- the action that one step shows
 unfoldable pub action_shown : Mixture → Action
@@ -36,41 +35,30 @@ AnyStep =
     (arbitrate clock s now hold want v f).output.action
     ≡ action_shown (mixture s.prev_output want.action v f (hold_met clock now (recovery_start s.recovery_since_ms now) hold))
 
-abbrev pub each : {A : Type 0} → List A → (A → List Mixture) → List Mixture
-each [] f = []
-each (x ∷ xs) f = f x ++ each xs f
-
 abbrev pub answers : List Bool
 answers = false ∷ true ∷ []
 
 -- "the 200 mixtures"
 abbrev pub mixtures : List Mixture
 mixtures =
-    each actions (λ p. each actions (λ w. each answers (λ v. each answers (λ f. each answers (λ e. mixture p w v f e ∷ [])))))
+    flat_map (λ p. flat_map (λ w. flat_map (λ v. flat_map (λ f. flat_map (λ e. mixture p w v f e ∷ []) answers) answers) answers) actions) actions
 
--- 1 where a mixture ends in an action
-unfoldable pub ends_one : Action → Mixture → ℕ
-ends_one a m = cond (eqb (rank (action_shown m)) (rank a)) 1 0
+-- whether a mixture ends in an action
+unfoldable pub ends : Action → Mixture → Bool
+ends a m = rank (action_shown m) == rank a
 
--- how many of some mixtures end in an action
-abbrev pub sum_over : (Mixture → ℕ) → List Mixture → ℕ
-sum_over f [] = 0
-sum_over f (m ∷ ms) = f m + sum_over f ms
-
+-- how many of the mixtures end in an action
 unfoldable pub ends_in : Action → ℕ
-ends_in a = sum_over (ends_one a) mixtures
-
--- the mixture of a number, counted from 0: its place in `mixtures`
-abbrev pub below_land : List Action
-below_land = Action.Nominal ∷ Action.Warn ∷ Action.Hold ∷ Action.ReturnToLaunch ∷ []
+ends_in a = count_by (ends a) mixtures
 
 -- the action of a rank, and Land from 4 up
 abbrev pub action_at : ℕ → Action
-action_at n = get_or below_land n Action.Land
+action_at n = slice_index_or actions n Action.Land
 
 abbrev pub is_odd : ℕ → Bool
-is_odd n = eqb (n % 2) 1
+is_odd n = n % 2 == 1
 
+-- the mixture of a number, counted from 0: its place in `mixtures`
 unfoldable pub mixture_at : ℕ → Mixture
 mixture_at n = mixture (action_at (n / 40)) (action_at (n / 8 % 5)) (is_odd (n / 4)) (is_odd (n / 2)) (is_odd n)
 
@@ -81,7 +69,7 @@ fault_as_unelapsed m =
 
 -- how many mixtures would then end in an action
 unfoldable pub would_end_in : Action → ℕ
-would_end_in a = sum_over (λ m. ends_one a (fault_as_unelapsed m)) mixtures
+would_end_in a = count_by (λ m. ends a (fault_as_unelapsed m)) mixtures
 
 -- "the counts", and where those that document 02 expects come from
 pub record Counts : Type 0 where

@@ -1,9 +1,9 @@
 -- One step. Assumes nothing.
+use Rattle.std.specs.Prelude.{Option, Some, None}
 use Prim.Native.Nat.{ℕ}
 use mathlib.Core.Bool.{Bool, true, false, not, ◌&&◌, cond}
 use mathlib.Core.Path.{◌≡◌, refl, ap, sym, subst, ◌∙◌}
 use lib.Ieee.{Float}
-use Rattle.types.specs.declared.OptionF32.{OptionF32}
 use Rattle.types.specs.declared.ActiveSet.{ActiveSet}
 use Rattle.types.specs.declared.Telemetry.{Telemetry}
 use Rattle.types.specs.ActiveSet.{requested_action}
@@ -19,7 +19,6 @@ use Rattle.timers.specs.declared.Timer.{Timer}
 use Rattle.timers.specs.Timer.{cleared, pending, held_set}
 use Rattle.triggers.specs.declared.RcLink.{RcLink}
 use Rattle.triggers.specs.declared.Families.{Families}
-use Rattle.triggers.specs.declared.OptionPlace.{OptionPlace}
 use Rattle.triggers.specs.declared.TriggerState.{TriggerState}
 use Rattle.triggers.specs.declared.Updated.{Updated}
 use Rattle.triggers.specs.Families.{rc_link, gps, in_air, fence, battery, energy}
@@ -31,6 +30,7 @@ use Rattle.supervisor.specs.declared.Stepped.{Stepped}
 use Rattle.supervisor.specs.Settings.{Settings, Site}
 use Rattle.supervisor.specs.Step.{place_of, valid_place, energy_at, margin_at, triggers_after, arbiter_after, glitch_after, sense, decision_of, disarmed, flown, step}
 use Rattle.no_controller.specs.Step.{without_rc, without_rc_timer, without_rc_clear, SameStep, StepClaim}
+use Rattle.triggers.specs.declared.Place.{Place}
 
 -- what the families make of everything but rc_ok, with the hand controller's link given
 with_link : RcLink → Families → Families
@@ -53,20 +53,20 @@ quiet clear = record { set = cleared; clear = clear; lost = false; met = false }
 
 -- ---- no other family reads the RC clear timer
 
-fence_same : (ck : Clock) (s : TriggerState) (now : ℕ) (p : OptionPlace) (flying : Bool) (lo hi : Float) (cfg : Config) → fence ck s now p flying lo hi cfg ≡ fence ck (without_rc_timer s) now p flying lo hi cfg
+fence_same : (ck : Clock) (s : TriggerState) (now : ℕ) (p : Option Place) (flying : Bool) (lo hi : Float) (cfg : Config) → fence ck s now p flying lo hi cfg ≡ fence ck (without_rc_timer s) now p flying lo hi cfg
 unfolding fence without_rc_timer
-fence_same ck s now OptionPlace.None flying lo hi cfg = refl
-fence_same ck s now (OptionPlace.Some p) flying lo hi cfg = refl
+fence_same ck s now None flying lo hi cfg = refl
+fence_same ck s now (Some p) flying lo hi cfg = refl
 
-battery_same : (ck : Clock) (s : TriggerState) (now : ℕ) (percent volts : OptionF32) (cfg : Config) → battery ck s now percent volts cfg ≡ battery ck (without_rc_timer s) now percent volts cfg
+battery_same : (ck : Clock) (s : TriggerState) (now : ℕ) (percent volts : Option Float) (cfg : Config) → battery ck s now percent volts cfg ≡ battery ck (without_rc_timer s) now percent volts cfg
 unfolding battery without_rc_timer
-battery_same ck s now OptionF32.None volts cfg = refl
-battery_same ck s now (OptionF32.Some p) volts cfg = refl
+battery_same ck s now None volts cfg = refl
+battery_same ck s now (Some p) volts cfg = refl
 
-energy_same : (ck : Clock) (s : TriggerState) (now : ℕ) (margin : OptionF32) (cfg : Config) → energy ck s now margin cfg ≡ energy ck (without_rc_timer s) now margin cfg
+energy_same : (ck : Clock) (s : TriggerState) (now : ℕ) (margin : Option Float) (cfg : Config) → energy ck s now margin cfg ≡ energy ck (without_rc_timer s) now margin cfg
 unfolding energy without_rc_timer
-energy_same ck s now OptionF32.None cfg = refl
-energy_same ck s now (OptionF32.Some m) cfg = refl
+energy_same ck s now None cfg = refl
+energy_same ck s now (Some m) cfg = refl
 
 module _ (ck : Clock) (cfg : Config) (off : cfg.rc_required ≡ false) where
   rc_quiet : (set clear : Timer) (now : ℕ) (good : Bool) → rc_link ck set clear now good cfg ≡ quiet (held_set ck clear now good cfg.rc_lost_clear_ms).timer
@@ -84,7 +84,7 @@ module _ (ck : Clock) (cfg : Config) (off : cfg.rc_required ≡ false) where
             met = s.met;
           }
 
-  module _ (lo hi : Float) (place : OptionPlace) (margin : OptionF32) (invalid : Bool) where
+  module _ (lo hi : Float) (place : Option Place) (margin : Option Float) (invalid : Bool) where
     abbrev of : TriggerState → Telemetry → Families
     of s t = families ck s t cfg lo hi place margin invalid
 

@@ -1,6 +1,5 @@
 -- Document 02, L4, for one step: what is left of telemetry without rc_ok, and of a state without the RC clear timer. Assumes nothing.
-use Rattle.std.specs.Prelude.{false, ◌≡◌}
-use Rattle.types.specs.declared.OptionStampedBool.{OptionStampedBool}
+use Rattle.std.specs.Prelude.{false, ◌≡◌, None}
 use Rattle.types.specs.declared.Telemetry.{Telemetry}
 use Rattle.timers.specs.Timer.{cleared}
 use Rattle.triggers.specs.declared.TriggerState.{TriggerState}
@@ -20,7 +19,7 @@ without_rc t =
       gcs_heartbeat_ms = t.gcs_heartbeat_ms;
       armed = t.armed;
       landed = t.landed;
-      rc_ok = OptionStampedBool.None;
+      rc_ok = None;
       ekf_ok = t.ekf_ok;
     }
 

@@ -1,13 +1,12 @@
 -- Document 02, L5: "A surveyor drew a five-pointed star and it was taken as convex, since all its turns have one sign. … Kind 2 keeps the Rust's rule. …
 -- Turned away: 33 where the sign changes more than twice, after 16 and before 17." Assumes nothing.
-use Rattle.std.specs.Prelude.{ℕ, ◌≡◌, Bool, true, false, List, [], ◌∷◌, Float}
+use Rattle.std.specs.Prelude.{ℕ, ◌≡◌, Bool, true, false, List, [], ◌∷◌, Float, Result, Ok, Err, ⊤}
 use Rattle.std.specs.Float.{binary32}
 use Rattle.std.specs.Float.Ieee.{round}
 use Rattle.types.specs.declared.Point2.{Point2}
 use Rattle.corners.specs.OnceRound.{sign_changes}
 use Rattle.corners.specs.Acceptance.{fence_error_number, polygon_fault}
 use Rattle.corners.specs.declared.FenceError.{FenceError}
-use Rattle.corners.specs.declared.FenceResult.{FenceResult}
 use Rattle.frame_fence.specs.FenceFrame.{read_fence, fence_of, fence_frame}
 
 -- so many metres north or east, and south or west
@@ -40,20 +39,20 @@ square = point (above_zero 0) (above_zero 0) ∷ point (above_zero 0) (above_zer
 abbrev pub frame_of : Bool → List Point2 → List ℕ
 frame_of once l = fence_frame once 5 (above_zero 5) (above_zero 120) l
 
-abbrev pub answer : List ℕ → FenceResult
+abbrev pub answer : List ℕ → Result ⊤ FenceError
 answer frame = (fence_of (read_fence frame)).result
 
 pub record Star : Type 0 where
   -- the star is taken as kind 2 and turned away as kind 8
-  pub as_kind_2 : answer (frame_of false star) ≡ FenceResult.Ok
-  pub as_kind_8 : answer (frame_of true star) ≡ FenceResult.Err FenceError.NotOnceRound
+  pub as_kind_2 : answer (frame_of false star) ≡ Ok tt
+  pub as_kind_8 : answer (frame_of true star) ≡ Err FenceError.NotOnceRound
   pub number : fence_error_number FenceError.NotOnceRound ≡ 33
   -- "before 17"
-  pub small_as_kind_2 : polygon_fault false 5 small_star ≡ FenceResult.Err FenceError.AreaTooSmall
-  pub small_as_kind_8 : polygon_fault true 5 small_star ≡ FenceResult.Err FenceError.NotOnceRound
+  pub small_as_kind_2 : polygon_fault false 5 small_star ≡ Err FenceError.AreaTooSmall
+  pub small_as_kind_8 : polygon_fault true 5 small_star ≡ Err FenceError.NotOnceRound
   -- "after 16"
   pub zigzag_changes : sign_changes zigzag ≡ 4
-  pub zigzag_as_kind_8 : polygon_fault true 5 zigzag ≡ FenceResult.Err FenceError.NotConvex
+  pub zigzag_as_kind_8 : polygon_fault true 5 zigzag ≡ Err FenceError.NotConvex
   -- "zero steps are skipped"
   pub square_changes : sign_changes square ≡ 2
-  pub square_as_kind_8 : polygon_fault true 4 square ≡ FenceResult.Ok
+  pub square_as_kind_8 : polygon_fault true 4 square ≡ Ok tt

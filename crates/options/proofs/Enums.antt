@@ -6,13 +6,16 @@ use mathlib.Core.Bool.{Bool, true, false, ◌&&◌}
 use native.Mathlib.Omega.{arith}
 use lib.Dec.{eqb}
 use borrow.Author.Tests.{ltb-true, lt-ltb, eqb-true, eqb-false}
+use Rattle.std.specs.Prelude.{Result}
+use Rattle.std.specs.Result.{result_unwrap_or}
 use Rattle.types.specs.declared.Action.{Action}
 use Rattle.types.specs.declared.Reason.{Reason}
-use Rattle.types.specs.Numbers.{rank, action_of_rank, index, from_index}
-use Rattle.types.proofs.Slots.{index_lt, from_index_lem}
+use Rattle.types.specs.declared.UnknownNumber.{UnknownNumber}
+use Rattle.types.specs.Numbers.{rank, action_of_rank, index, reason_of_index}
+use Rattle.types.proofs.Slots.{index_lt, reason_of_index_lem}
 use Rattle.wire.specs.Fields.{u8_at, byte_below, le8, bytes_from}
 use Rattle.wire.proofs.Whole.{first, second}
-use Rattle.options.specs.Enums.{action_at, reason_at, le_action, le_reason, action_or_nominal, reason_or_none}
+use Rattle.options.specs.Enums.{action_at, reason_at, le_action, le_reason}
 
 pub action_back : (a : Action) → action_at (le_action a) 0 ≡ a
 unfolding u8_at action_at le8 le_action
@@ -32,7 +35,7 @@ action_valid Action.Land = refl
 
 pub reason_back : (r : Reason) → reason_at (le_reason r) 0 ≡ r
 unfolding u8_at reason_at le8 le_reason
-reason_back r = ap reason_or_none (from_index_lem r)
+reason_back r = ap (λ (o : Result Reason UnknownNumber). result_unwrap_or o Reason.None) (reason_of_index_lem r)
 
 pub reason_valid : (r : Reason) → byte_below (le_reason r) 0 19 ≡ true
 unfolding u8_at byte_below le8 le_reason
@@ -55,12 +58,12 @@ pub action_bytes : (s : List ℕ) (i : ℕ) → byte_below s i 5 ≡ true → le
 unfolding u8_at byte_below action_at le8 le_action
 action_bytes s i h =
     let x = u8_at s i in
-    let f : ℕ → Bool = λ k. eqb (rank (action_or_nominal (action_of_rank k))) k in
-    ap (λ (n : ℕ). n ∷ []) (eqb-true (rank (action_or_nominal (action_of_rank x))) x (below f 5 refl x (ltb-true x 5 h)))
+    let f : ℕ → Bool = λ k. eqb (rank (result_unwrap_or (action_of_rank k) Action.Nominal)) k in
+    ap (λ (n : ℕ). n ∷ []) (eqb-true (rank (result_unwrap_or (action_of_rank x) Action.Nominal)) x (below f 5 refl x (ltb-true x 5 h)))
 
 pub reason_bytes : (s : List ℕ) (i : ℕ) → byte_below s i 19 ≡ true → le_reason (reason_at s i) ≡ bytes_from s i 1
 unfolding u8_at byte_below reason_at le8 le_reason
 reason_bytes s i h =
     let x = u8_at s i in
-    let f : ℕ → Bool = λ k. eqb (index (reason_or_none (from_index k))) k in
-    ap (λ (n : ℕ). n ∷ []) (eqb-true (index (reason_or_none (from_index x))) x (below f 19 refl x (ltb-true x 19 h)))
+    let f : ℕ → Bool = λ k. eqb (index (result_unwrap_or (reason_of_index k) Reason.None)) k in
+    ap (λ (n : ℕ). n ∷ []) (eqb-true (index (result_unwrap_or (reason_of_index x) Reason.None)) x (below f 19 refl x (ltb-true x 19 h)))

@@ -1,12 +1,11 @@
 -- A position reading that may be absent, in the declared order of its fields: 29 bytes. Assumes nothing.
-use Rattle.std.specs.Prelude.{ℕ, ◌+◌, List, [], ◌∷◌, ◌++◌, Bool, true, false, cond}
+use Rattle.std.specs.Prelude.{ℕ, ◌+◌, List, [], ◌∷◌, ◌++◌, cond, Option, Some, None, is_some, unwrap_or}
 use Rattle.std.specs.Float.{binary32}
 use Rattle.std.specs.Float.Ieee.{of_bits}
 use Rattle.wire.specs.Fields.{flag_at, u32_at, f32_at, le_flag, le32, le_f32}
 use Rattle.wire.specs.Cell.{Cell, flag, u32, f32}
 use Rattle.types.specs.declared.Vec3.{Vec3}
 use Rattle.types.specs.declared.PositionSample.{PositionSample}
-use Rattle.types.specs.declared.OptionPositionSample.{OptionPositionSample}
 
 unfoldable pub vec3_at : List ℕ → ℕ → Vec3
 vec3_at s i = record { n = f32_at s i; e = f32_at s (i + 4); d = f32_at s (i + 8) }
@@ -20,29 +19,22 @@ zero_vec3 = record { n = of_bits binary32 0; e = of_bits binary32 0; d = of_bits
 abbrev pub zero_sample : PositionSample
 zero_sample = record { t_ms = 0; pos = zero_vec3; vel = zero_vec3 }
 
-abbrev pub is_some_position : OptionPositionSample → Bool
-is_some_position OptionPositionSample.None = false
-is_some_position (OptionPositionSample.Some p) = true
-
-abbrev pub position_or_zero : OptionPositionSample → PositionSample
-position_or_zero OptionPositionSample.None = zero_sample
-position_or_zero (OptionPositionSample.Some p) = p
-
-unfoldable pub option_position_at : List ℕ → ℕ → OptionPositionSample
+unfoldable pub option_position_at : List ℕ → ℕ → Option PositionSample
 option_position_at s i =
     cond (flag_at s i)
-    (OptionPositionSample.Some (record { t_ms = u32_at s (i + 1); pos = vec3_at s (i + 5); vel = vec3_at s (i + 17) }))
-    OptionPositionSample.None
+    (Some (record { t_ms = u32_at s (i + 1); pos = vec3_at s (i + 5); vel = vec3_at s (i + 17) }))
+    None
 
-unfoldable pub le_option_position : OptionPositionSample → List ℕ
+unfoldable pub le_option_position : Option PositionSample → List ℕ
 le_option_position o =
-    le_flag (is_some_position o) ++ (le32 (position_or_zero o).t_ms ++ (le_vec3 (position_or_zero o).pos ++ le_vec3 (position_or_zero o).vel))
+    let p = unwrap_or o zero_sample in
+    le_flag (is_some o) ++ (le32 p.t_ms ++ (le_vec3 p.pos ++ le_vec3 p.vel))
 
 -- the cells of such a reading
-abbrev pub position_cells : OptionPositionSample → List Cell
+abbrev pub position_cells : Option PositionSample → List Cell
 position_cells o =
-    let p = position_or_zero o in
-    flag (is_some_position o) ∷
+    let p = unwrap_or o zero_sample in
+    flag (is_some o) ∷
     u32 p.t_ms ∷
     f32 p.pos.n ∷
     f32 p.pos.e ∷

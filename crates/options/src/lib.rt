@@ -5,13 +5,10 @@ ghost use Rattle.std.specs.Prelude.{◌≡◌, ◌∷◌, ◌+◌, ◌^◌, ◌<
 ghost use Rattle.std.proofs.lemmas.List.Edits.{sets};
 ghost use Rattle.wire.specs.Fields.{u32_at, le32};
 ghost use Rattle.options.specs.Enums.{action_at, reason_at, le_action, le_reason};
-ghost use Rattle.options.specs.Options.{zeros, valid_option, option_u8_at, is_some_u32, u32_or_zero, option_u32_at, le_option_u32, is_some_f32, f32_or_zero, option_f32_at, le_option_f32};
-ghost use Rattle.options.specs.Position.{vec3_at, le_vec3, zero_sample, is_some_position, position_or_zero, option_position_at, le_option_position};
+ghost use Rattle.options.specs.Options.{zeros, valid_option, option_u8_at, option_u32_at, le_option_u32, option_f32_at, le_option_f32};
+ghost use Rattle.options.specs.Position.{vec3_at, le_vec3, zero_sample, option_position_at, le_option_position};
 
-use types::{
-    Action, OptionAction, OptionF32, OptionPositionSample, OptionReason, OptionU8, OptionU32,
-    PositionSample, Reason, Vec3,
-};
+use types::{Action, PositionSample, Reason, Vec3};
 
 // The number of four bytes that are all within the slice.
 fn word(s: &[u8], at: usize) -> u32
@@ -27,12 +24,11 @@ fn zero_words(s: &[u8], at: usize, n: usize) -> bool
     ensures { result ≡ zeros s.now at n }
 {
     let mut zero = true;
-    let mut i: usize = 0;
-    while 3 < n - i {
-        zero = zero & (word(s, at + i) == 0);
-        i += 4;
+    let words = n / 4;
+    for i in 0..words {
+        zero &= word(s, at + 4 * i) == 0;
     }
-    zero & zero_bytes(s, at + i, n - i)
+    zero & zero_bytes(s, at + 4 * words, n % 4)
 }
 
 // The same, a byte at a time.
@@ -41,10 +37,8 @@ fn zero_bytes(s: &[u8], at: usize, n: usize) -> bool
     ensures { result ≡ zeros s.now at n }
 {
     let mut zero = true;
-    let mut i: usize = 0;
-    while i < n {
-        zero = zero & (s[at + i] == 0);
-        i += 1;
+    for i in 0..n {
+        zero &= s[at + i] == 0;
     }
     zero
 }
@@ -65,41 +59,23 @@ pub fn option_valid(s: &[u8], at: usize, n: usize) -> bool
     }
 }
 
-pub fn option_u8_at(s: &[u8], at: usize) -> OptionU8
+pub fn option_u8_at(s: &[u8], at: usize) -> Option<u8>
     ensures { result ≡ option_u8_at s.now at }
 {
     if wire::flag_at(s, at) {
-        OptionU8::Some(wire::u8_at(s, at + 1))
+        Some(wire::u8_at(s, at + 1))
     } else {
-        OptionU8::None
+        None
     }
 }
 
-fn is_some_u32(o: OptionU32) -> bool
-    ensures { result ≡ is_some_u32 o }
-{
-    match o {
-        OptionU32::Some(_) => true,
-        OptionU32::None => false,
-    }
-}
-
-fn u32_or_zero(o: OptionU32) -> u32
-    ensures { result ≡ u32_or_zero o }
-{
-    match o {
-        OptionU32::Some(n) => n,
-        OptionU32::None => 0,
-    }
-}
-
-pub fn option_u32_at(s: &[u8], at: usize) -> OptionU32
+pub fn option_u32_at(s: &[u8], at: usize) -> Option<u32>
     ensures { result ≡ option_u32_at s.now at }
 {
     if wire::flag_at(s, at) {
-        OptionU32::Some(wire::u32_at(s, at + 1))
+        Some(wire::u32_at(s, at + 1))
     } else {
-        OptionU32::None
+        None
     }
 }
 
@@ -116,56 +92,38 @@ fn put_flagged(s: &mut [u8], at: usize, flag: u8, n: u32)
 }
 
 // Where all five bytes are within the slice, they are written with no further test.
-pub fn put_option_u32(s: &mut [u8], at: usize, o: OptionU32)
+pub fn put_option_u32(s: &mut [u8], at: usize, o: Option<u32>)
     ensures { s.new ≡ sets s.old at (le_option_u32 o) }
 {
     if at < s.len() {
         if at + 4 < s.len() {
             match o {
-                OptionU32::Some(n) => put_flagged(s, at, 1, n),
-                OptionU32::None => put_flagged(s, at, 0, 0),
+                Some(n) => put_flagged(s, at, 1, n),
+                None => put_flagged(s, at, 0, 0),
             }
         } else {
-            wire::put_flag(s, at, is_some_u32(o));
-            wire::put_u32(s, at + 1, u32_or_zero(o));
+            wire::put_flag(s, at, o.is_some());
+            wire::put_u32(s, at + 1, o.unwrap_or(0));
         }
     }
 }
 
-fn is_some_f32(o: OptionF32) -> bool
-    ensures { result ≡ is_some_f32 o }
-{
-    match o {
-        OptionF32::Some(_) => true,
-        OptionF32::None => false,
-    }
-}
-
-fn f32_or_zero(o: OptionF32) -> f32
-    ensures { result ≡ f32_or_zero o }
-{
-    match o {
-        OptionF32::Some(x) => x,
-        OptionF32::None => 0.0,
-    }
-}
-
-pub fn option_f32_at(s: &[u8], at: usize) -> OptionF32
+pub fn option_f32_at(s: &[u8], at: usize) -> Option<f32>
     ensures { result ≡ option_f32_at s.now at }
 {
     if wire::flag_at(s, at) {
-        OptionF32::Some(wire::f32_at(s, at + 1))
+        Some(wire::f32_at(s, at + 1))
     } else {
-        OptionF32::None
+        None
     }
 }
 
-pub fn put_option_f32(s: &mut [u8], at: usize, o: OptionF32)
+pub fn put_option_f32(s: &mut [u8], at: usize, o: Option<f32>)
     ensures { s.new ≡ sets s.old at (le_option_f32 o) }
 {
     if at < s.len() {
-        wire::put_flag(s, at, is_some_f32(o));
-        wire::put_f32(s, at + 1, f32_or_zero(o));
+        wire::put_flag(s, at, o.is_some());
+        wire::put_f32(s, at + 1, o.unwrap_or(0.0));
     }
 }
 
@@ -215,40 +173,22 @@ fn zero_sample() -> PositionSample
     }
 }
 
-fn is_some_position(o: OptionPositionSample) -> bool
-    ensures { result ≡ is_some_position o }
-{
-    match o {
-        OptionPositionSample::Some(_) => true,
-        OptionPositionSample::None => false,
-    }
-}
-
-fn position_or_zero(o: OptionPositionSample) -> PositionSample
-    ensures { result ≡ position_or_zero o }
-{
-    match o {
-        OptionPositionSample::Some(p) => p,
-        OptionPositionSample::None => zero_sample(),
-    }
-}
-
 // A reading whose bytes may reach past the end.
-fn position_past(s: &[u8], at: usize) -> OptionPositionSample
+fn position_past(s: &[u8], at: usize) -> Option<PositionSample>
     ensures { result ≡ option_position_at s.now at }
 {
     if wire::flag_at(s, at) {
         let t_ms = wire::u32_at(s, at + 1);
         let pos = vec3_at(s, at + 5);
         let vel = vec3_at(s, at + 17);
-        OptionPositionSample::Some(PositionSample { t_ms, pos, vel })
+        Some(PositionSample { t_ms, pos, vel })
     } else {
-        OptionPositionSample::None
+        None
     }
 }
 
 // A reading whose bytes are all within the slice.
-fn position_in(s: &[u8], at: usize) -> OptionPositionSample
+fn position_in(s: &[u8], at: usize) -> Option<PositionSample>
     requires { at + 29 ≤ length s.now }
     ensures { result ≡ option_position_at s.now at }
 {
@@ -256,14 +196,14 @@ fn position_in(s: &[u8], at: usize) -> OptionPositionSample
         let t_ms = word(s, at + 1);
         let pos = vec3_in(s, at + 5);
         let vel = vec3_in(s, at + 17);
-        OptionPositionSample::Some(PositionSample { t_ms, pos, vel })
+        Some(PositionSample { t_ms, pos, vel })
     } else {
-        OptionPositionSample::None
+        None
     }
 }
 
 // Where all 29 bytes are within the slice, they are read with no further test.
-pub fn option_position_at(s: &[u8], at: usize) -> OptionPositionSample
+pub fn option_position_at(s: &[u8], at: usize) -> Option<PositionSample>
     ensures { result ≡ option_position_at s.now at }
 {
     if at < s.len() {
@@ -274,17 +214,15 @@ pub fn option_position_at(s: &[u8], at: usize) -> OptionPositionSample
     position_past(s, at)
 }
 
-pub fn put_option_position(s: &mut [u8], at: usize, o: OptionPositionSample)
+pub fn put_option_position(s: &mut [u8], at: usize, o: Option<PositionSample>)
     ensures { s.new ≡ sets s.old at (le_option_position o) }
 {
     if at < s.len() {
-        let p = position_or_zero(o);
-        let pos = p.pos;
-        let vel = p.vel;
-        wire::put_flag(s, at, is_some_position(o));
+        let p = o.unwrap_or(zero_sample());
+        wire::put_flag(s, at, o.is_some());
         wire::put_u32(s, at + 1, p.t_ms);
-        put_vec3(s, at + 5, pos);
-        put_vec3(s, at + 17, vel);
+        put_vec3(s, at + 5, p.pos);
+        put_vec3(s, at + 17, p.vel);
     }
 }
 
@@ -292,11 +230,7 @@ pub fn put_option_position(s: &mut [u8], at: usize, o: OptionPositionSample)
 pub fn action_at(s: &[u8], at: usize) -> Action
     ensures { result ≡ action_at s.now at }
 {
-    let o = Action::from_rank(wire::u8_at(s, at));
-    match o {
-        OptionAction::Some(a) => a,
-        OptionAction::None => Action::Nominal,
-    }
+    Action::try_from(wire::u8_at(s, at)).unwrap_or(Action::Nominal)
 }
 
 pub fn put_action(s: &mut [u8], at: usize, a: Action)
@@ -305,21 +239,11 @@ pub fn put_action(s: &mut [u8], at: usize, a: Action)
     wire::put_u8(s, at, a.rank());
 }
 
-fn wide(b: u8) -> usize
-    ensures { result ≡ b }
-{
-    b as usize
-}
-
 // A byte that is no reason's, which `byte_below` refuses before, is read as None.
 pub fn reason_at(s: &[u8], at: usize) -> Reason
     ensures { result ≡ reason_at s.now at }
 {
-    let o = Reason::from_index(wide(wire::u8_at(s, at)));
-    match o {
-        OptionReason::Some(r) => r,
-        OptionReason::None => Reason::None,
-    }
+    Reason::try_from(wire::u8_at(s, at)).unwrap_or(Reason::None)
 }
 
 pub fn put_reason(s: &mut [u8], at: usize, r: Reason)

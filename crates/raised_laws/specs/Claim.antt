@@ -1,10 +1,7 @@
 -- Document 02, L11: what holds of every flight whose configuration is of kind 11. Assumes nothing.
-use Rattle.std.specs.Prelude.{ℕ, Bool, true, false, not, ◌&&◌, List, [], ◌∷◌, ◌≡◌, Float}
+use Rattle.std.specs.Prelude.{ℕ, Bool, true, false, not, ◌&&◌, List, [], ◌∷◌, ◌≡◌, Float, Option, None}
 use Rattle.types.specs.declared.Action.{Action}
 use Rattle.types.specs.declared.Reason.{Reason}
-use Rattle.types.specs.declared.OptionF32.{OptionF32}
-use Rattle.types.specs.declared.OptionGpsSample.{OptionGpsSample}
-use Rattle.types.specs.declared.OptionStampedBool.{OptionStampedBool}
 use Rattle.types.specs.ActiveSet.{empty_set, set_request}
 use Rattle.time.specs.Time.{Clock}
 use Rattle.config.specs.declared.Config.{Config}
@@ -14,7 +11,6 @@ use Rattle.validate.specs.Fresh.{position_valid, fresh_remaining_wh, fresh_true}
 use Rattle.timers.specs.declared.Timer.{Timer}
 use Rattle.timers.specs.Timer.{held_set, rested, raised_by}
 use Rattle.triggers.specs.declared.Families.{Families}
-use Rattle.triggers.specs.declared.OptionPlace.{OptionPlace}
 use Rattle.triggers.specs.declared.TriggerState.{TriggerState}
 use Rattle.triggers.specs.Families.{rc_link, gps, ekf, fence, battery, energy}
 use Rattle.triggers.specs.Update.{none_raised, rc_lost, families}
@@ -66,11 +62,11 @@ pub record RaisedLaws : Type 0 where
   pub rested_keeps : (before : Bool) (set clear : Timer) → raised_by true before (rested set clear) ≡ before
   -- "Readings absent after validation drop none of them": no clear hold is met without a sample, without a reading of the estimator, without a valid
   -- position, without a charge, without a margin
-  pub absent_gps : (ck : Clock) (s : TriggerState) (now : ℕ) (cfg : Config) → ((gps ck s now OptionGpsSample.None cfg).degraded.clear_met ≡ false) × ((gps ck s now OptionGpsSample.None cfg).lost.clear_met ≡ false)
-  pub absent_ekf : (ck : Clock) (set clear : Timer) (now : ℕ) (cfg : Config) → (ekf ck set clear now (fresh_true ck now OptionStampedBool.None cfg.status_fresh_ms) cfg).clear_met ≡ false
-  pub absent_place : (ck : Clock) (s : TriggerState) (now : ℕ) (flying : Bool) (lo hi : Float) (cfg : Config) → ((fence ck s now OptionPlace.None flying lo hi cfg).breach.clear_met ≡ false) × ((fence ck s now OptionPlace.None flying lo hi cfg).alt_min.clear_met ≡ false)
-  pub absent_charge : (ck : Clock) (s : TriggerState) (now : ℕ) (volts : OptionF32) (cfg : Config) → ((battery ck s now OptionF32.None volts cfg).warn.clear_met ≡ false) × ((battery ck s now OptionF32.None volts cfg).low.clear_met ≡ false)
-  pub absent_margin : (ck : Clock) (s : TriggerState) (now : ℕ) (cfg : Config) → (energy ck s now OptionF32.None cfg).marginal.clear_met ≡ false
+  pub absent_gps : (ck : Clock) (s : TriggerState) (now : ℕ) (cfg : Config) → ((gps ck s now None cfg).degraded.clear_met ≡ false) × ((gps ck s now None cfg).lost.clear_met ≡ false)
+  pub absent_ekf : (ck : Clock) (set clear : Timer) (now : ℕ) (cfg : Config) → (ekf ck set clear now (fresh_true ck now None cfg.status_fresh_ms) cfg).clear_met ≡ false
+  pub absent_place : (ck : Clock) (s : TriggerState) (now : ℕ) (flying : Bool) (lo hi : Float) (cfg : Config) → ((fence ck s now None flying lo hi cfg).breach.clear_met ≡ false) × ((fence ck s now None flying lo hi cfg).alt_min.clear_met ≡ false)
+  pub absent_charge : (ck : Clock) (s : TriggerState) (now : ℕ) (volts : Option Float) (cfg : Config) → ((battery ck s now None volts cfg).warn.clear_met ≡ false) × ((battery ck s now None volts cfg).low.clear_met ≡ false)
+  pub absent_margin : (ck : Clock) (s : TriggerState) (now : ℕ) (cfg : Config) → (energy ck s now None cfg).marginal.clear_met ≡ false
   -- "RcLost is raised where its set timer has held rc_lost_set_ms, and only there"
   pub rc_held : (ck : Clock) (set clear : Timer) (now : ℕ) (good : Bool) (cfg : Config) → rc_lost true (rc_link ck set clear now good cfg) ≡ (held_set ck set now (cfg.rc_required && not good) cfg.rc_lost_set_ms).met
   -- "confirmed disarm, on a faulted step too, drops all"

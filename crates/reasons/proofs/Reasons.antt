@@ -1,18 +1,14 @@
 -- The claim of specs/Claim.antt. Assumes nothing.
+use Rattle.std.specs.Prelude.{Option, Some, None}
 use Prim.Native.Nat.{ℕ}
 use mathlib.Core.Bool.{Bool, true, false, not, cond, false≢true, true≢false}
 use mathlib.Core.Path.{◌≡◌, refl, ap, ◌∙◌}
 use lib.Ieee.{Float}
 use Rattle.types.specs.declared.Action.{Action}
-use Rattle.types.specs.declared.OptionAction.{OptionAction}
 use Rattle.types.specs.declared.Reason.{Reason}
-use Rattle.types.specs.declared.OptionF32.{OptionF32}
-use Rattle.types.specs.declared.OptionU32.{OptionU32}
-use Rattle.types.specs.declared.OptionGpsSample.{OptionGpsSample}
 use Rattle.types.specs.declared.Telemetry.{Telemetry}
 use Rattle.time.specs.Time.{Clock, age}
 use Rattle.config.specs.declared.Config.{Config}
-use Rattle.triggers.specs.declared.OptionPlace.{OptionPlace}
 use Rattle.triggers.specs.declared.TriggerState.{TriggerState}
 use Rattle.triggers.specs.declared.Raised.{Raised}
 use Rattle.triggers.specs.declared.Families.{Families}
@@ -29,12 +25,14 @@ use Rattle.reasons.specs.Reasons.{◌when◌, is_filed, gps_sample, filed, filed
 use Rattle.reasons.specs.Claim.{Files, Left, UpdateClaim, StepReasons, StepReasonsClaim}
 use Rattle.reasons.proofs.Slots.{empty_files, files_option, files_if, files_as}
 use Rattle.reasons.proofs.Rows.{pair, pair_as, degraded_is, recovered_is, fixed_is, invalid_row, stale_row, link_row, stage_row, rc_row, approach_row, breach_row, max_row, min_row, warn_row, low_row, latch_row, critical_row, marginal_row, short_row, infeasible_row}
+use Rattle.types.specs.declared.GpsSample.{GpsSample}
+use Rattle.triggers.specs.declared.Place.{Place}
 
 -- ---- the families' requests, in the Rust's order
 
 module _ (keeps : Bool) (on : Raised) (f : Families) where
   -- a rule by which they are filed, made as they are; `rows` below says what it comes to
-  requests_filed : (rule : Reason → OptionAction) × Files (requests keeps on f) rule
+  requests_filed : (rule : Reason → Option Action) × Files (requests keeps on f) rule
   unfolding requests link_requests fence_requests battery_requests
   requests_filed = (
     _,
@@ -62,14 +60,14 @@ module _ (keeps : Bool) (on : Raised) (f : Families) where
 when_same : {a b : Bool} (act : Action) → a ≡ b → (act when a) ≡ (act when b)
 when_same act e = ap (λ (x : Bool). act when x) e
 
-module _ (ck : Clock) (s : TriggerState) (t : Telemetry) (cfg : Config) (lo hi : Float) (place : OptionPlace) (margin : OptionF32) (invalid : Bool) where
+module _ (ck : Clock) (s : TriggerState) (t : Telemetry) (cfg : Config) (lo hi : Float) (place : Option Place) (margin : Option Float) (invalid : Bool) where
   abbrev f : Families
   f = families ck s t cfg lo hi place margin invalid
 
   abbrev on : Raised
   on = raised_of cfg.keeps_raised s.raised f
 
-  abbrev g : OptionGpsSample
+  abbrev g : Option GpsSample
   g = gps_sample ck s t cfg lo hi place margin invalid
 
   rows : (q : Reason) → (requests_filed cfg.keeps_raised on f).0 q ≡ filed ck s t cfg lo hi place margin invalid q
@@ -100,7 +98,7 @@ module _ (ck : Clock) (s : TriggerState) (t : Telemetry) (cfg : Config) (lo hi :
 
   fault_filed : Files (update ck s t cfg lo hi place margin invalid true).active filed_on_fault
   unfolding update
-  fault_filed = files_option Reason.ClockFault (OptionAction.Some Action.Warn) refl empty_files
+  fault_filed = files_option Reason.ClockFault (Some Action.Warn) refl empty_files
 
   battery_latched : (update ck s t cfg lo hi place margin invalid false).triggers.battery_critical_latched ≡ battery_latch ck s t cfg lo hi place margin invalid
   unfolding update families next_triggers battery_latch
@@ -170,7 +168,7 @@ update_reasons ck s t cfg lo hi place margin invalid =
 -- ---- a whole step
 
 -- at a step that is known to be sound, or faulted
-module _ (ck : Clock) (s : TriggerState) (t : Telemetry) (cfg : Config) (lo hi : Float) (place : OptionPlace) (margin : OptionF32) (invalid : Bool) where
+module _ (ck : Clock) (s : TriggerState) (t : Telemetry) (cfg : Config) (lo hi : Float) (place : Option Place) (margin : Option Float) (invalid : Bool) where
   sound_at : (fault : Bool) → fault ≡ false → Files (update ck s t cfg lo hi place margin invalid fault).active (filed ck s t cfg lo hi place margin invalid)
   sound_at true e = absurd (true≢false e)
   sound_at false e = sound_filed ck s t cfg lo hi place margin invalid
@@ -184,15 +182,15 @@ module _ (ck : Clock) (s : TriggerState) (t : Telemetry) (cfg : Config) (lo hi :
   fault_at false e = absurd (false≢true e)
 
 -- only a fault is a third one
-sound_clears_nothing : (ck : Clock) (last : OptionU32) (epoch streak : ℕ) (init : Bool) (now : ℕ) → (clock_step ck last epoch streak init now).fault ≡ false → (clock_step ck last epoch streak init now).third ≡ false
+sound_clears_nothing : (ck : Clock) (last : Option ℕ) (epoch streak : ℕ) (init : Bool) (now : ℕ) → (clock_step ck last epoch streak init now).fault ≡ false → (clock_step ck last epoch streak init now).third ≡ false
 unfolding clock_step sound_clock clock_fault
 sound_clears_nothing ck last epoch streak false now h = refl
-sound_clears_nothing ck OptionU32.None epoch streak true now h = refl
-sound_clears_nothing ck (OptionU32.Some last) epoch streak true now h = at (age ck now last) h
+sound_clears_nothing ck None epoch streak true now h = refl
+sound_clears_nothing ck (Some last) epoch streak true now h = at (age ck now last) h
   where
-    at : (a : OptionU32) → (by_age a last epoch streak now).fault ≡ false → (by_age a last epoch streak now).third ≡ false
-    at OptionU32.None h = absurd (true≢false h)
-    at (OptionU32.Some a) h = refl
+    at : (a : Option ℕ) → (by_age a last epoch streak now).fault ≡ false → (by_age a last epoch streak now).third ≡ false
+    at None h = absurd (true≢false h)
+    at (Some a) h = refl
 
 module _ (r : Settings) (s : Supervisor) (fed : Fed) where
   -- a sound step is sensed from the state as it is

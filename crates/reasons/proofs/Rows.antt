@@ -1,4 +1,5 @@
 -- Each family's answer, by its row. Assumes nothing.
+use Rattle.std.specs.Prelude.{Option, Some, None}
 use Prim.Native.Nat.{ℕ}
 use mathlib.Core.Bool.{Bool, true, false, not, ◌&&◌, ◌||◌, cond}
 use mathlib.Core.Path.{◌≡◌, refl, ap, ◌∙◌}
@@ -7,20 +8,16 @@ use lib.IntN.{pos}
 use lib.Ieee.{Float, binary32, add, sub, mul, lt, le, of_int}
 use Rattle.float32.specs.Binary32.{zero_f, two}
 use Rattle.types.specs.declared.Action.{Action}
-use Rattle.types.specs.declared.OptionAction.{OptionAction}
-use Rattle.types.specs.declared.OptionF32.{OptionF32}
-use Rattle.types.specs.declared.OptionU8.{OptionU8}
-use Rattle.types.specs.declared.OptionU32.{OptionU32}
-use Rattle.types.specs.declared.OptionGpsSample.{OptionGpsSample}
 use Rattle.time.specs.Time.{Clock}
 use Rattle.timers.specs.declared.Timer.{Timer}
 use Rattle.timers.specs.Timer.{cleared, pending, held_set, hold_pair, rested, raised_by}
 use Rattle.config.specs.declared.Config.{Config}
-use Rattle.triggers.specs.declared.OptionPlace.{OptionPlace}
 use Rattle.triggers.specs.declared.TriggerState.{TriggerState}
 use Rattle.triggers.specs.Families.{invalid_input, gcs_age, stage_request, gcs_stage, gcs_clearing, gcs_link, rc_link, few_sats, many_sats, two_and_a_half, poor_hdop, good_hdop, degraded, recovered, is3d, fixed, fence_approach, fence_breach, altitude_max, altitude_min, fence, is_present, low_voltage, stale_battery, battery_warn, battery_low, battery_critical, battery, energy_marginal, energy}
 use Rattle.triggers.specs.Update.{rc_lost}
 use Rattle.reasons.specs.Reasons.{held_for, raised_from, of_count, of_value, of_sample, of_place}
+use Rattle.types.specs.declared.GpsSample.{GpsSample}
+use Rattle.triggers.specs.declared.Place.{Place}
 
 or_false : (b : Bool) → b ≡ (b || false)
 or_false true = refl
@@ -28,35 +25,35 @@ or_false false = refl
 
 -- ---- samples of the satellite receiver
 
-pub degraded_is : (s : OptionGpsSample) → degraded s ≡ not (of_sample s (λ g. of_count g.sats (λ n. not (ltb n 8)) && of_value g.hdop (λ h. not (lt two_and_a_half h))))
-degraded_is OptionGpsSample.None = refl
-degraded_is (OptionGpsSample.Some g) = at g.sats g.hdop
+pub degraded_is : (s : Option GpsSample) → degraded s ≡ not (of_sample s (λ g. of_count g.sats (λ n. not (ltb n 8)) && of_value g.hdop (λ h. not (lt two_and_a_half h))))
+degraded_is None = refl
+degraded_is (Some g) = at g.sats g.hdop
   where
     not_not : (b : Bool) → b ≡ not (not b)
     not_not true = refl
     not_not false = refl
 
-    poor : (h : OptionF32) (few : Bool) → (few || poor_hdop h) ≡ not (not few && of_value h (λ x. not (lt two_and_a_half x)))
+    poor : (h : Option Float) (few : Bool) → (few || poor_hdop h) ≡ not (not few && of_value h (λ x. not (lt two_and_a_half x)))
     poor h true = refl
-    poor OptionF32.None false = refl
-    poor (OptionF32.Some x) false = not_not (lt two_and_a_half x)
+    poor None false = refl
+    poor (Some x) false = not_not (lt two_and_a_half x)
 
-    at : (n : OptionU8) (h : OptionF32) → (few_sats n || poor_hdop h) ≡ not (of_count n (λ k. not (ltb k 8)) && of_value h (λ x. not (lt two_and_a_half x)))
-    at OptionU8.None h = refl
-    at (OptionU8.Some n) h = poor h (ltb n 8)
+    at : (n : Option ℕ) (h : Option Float) → (few_sats n || poor_hdop h) ≡ not (of_count n (λ k. not (ltb k 8)) && of_value h (λ x. not (lt two_and_a_half x)))
+    at None h = refl
+    at (Some n) h = poor h (ltb n 8)
 
-pub recovered_is : (s : OptionGpsSample) → recovered s ≡ of_sample s (λ g. of_count g.sats (λ n. leb 10 n) && of_value g.hdop (λ h. le h two))
-recovered_is OptionGpsSample.None = refl
-recovered_is (OptionGpsSample.Some g) = at g.sats g.hdop
+pub recovered_is : (s : Option GpsSample) → recovered s ≡ of_sample s (λ g. of_count g.sats (λ n. leb 10 n) && of_value g.hdop (λ h. le h two))
+recovered_is None = refl
+recovered_is (Some g) = at g.sats g.hdop
   where
-    at : (n : OptionU8) (h : OptionF32) → (many_sats n && good_hdop h) ≡ (of_count n (λ k. leb 10 k) && of_value h (λ x. le x two))
-    at OptionU8.None h = refl
-    at (OptionU8.Some n) OptionF32.None = refl
-    at (OptionU8.Some n) (OptionF32.Some x) = refl
+    at : (n : Option ℕ) (h : Option Float) → (many_sats n && good_hdop h) ≡ (of_count n (λ k. leb 10 k) && of_value h (λ x. le x two))
+    at None h = refl
+    at (Some n) None = refl
+    at (Some n) (Some x) = refl
 
-pub fixed_is : (s : OptionGpsSample) → fixed s ≡ of_sample s (λ g. is3d g.fix)
-fixed_is OptionGpsSample.None = refl
-fixed_is (OptionGpsSample.Some g) = refl
+pub fixed_is : (s : Option GpsSample) → fixed s ≡ of_sample s (λ g. is3d g.fix)
+fixed_is None = refl
+fixed_is (Some g) = refl
 
 module _ (ck : Clock) (now : ℕ) where
   -- a timer's hold is met where its test has held
@@ -86,43 +83,43 @@ module _ (ck : Clock) (now : ℕ) where
     invalid_row active clear true ms = refl
     invalid_row active clear false ms = refl
 
-    pub stale_row : (clear : Timer) (charge volts : OptionF32) (ms : ℕ) → (stale_battery ck clear now charge volts ms).stale ≡ not (is_present volts || is_present charge)
+    pub stale_row : (clear : Timer) (charge volts : Option Float) (ms : ℕ) → (stale_battery ck clear now charge volts ms).stale ≡ not (is_present volts || is_present charge)
     unfolding stale_battery
-    stale_row clear charge OptionF32.None ms = at charge
+    stale_row clear charge None ms = at charge
       where
-        at : (charge : OptionF32) → (stale_battery ck clear now charge OptionF32.None ms).stale ≡ not (is_present charge)
-        at OptionF32.None = refl
-        at (OptionF32.Some p) = refl
-    stale_row clear charge (OptionF32.Some v) ms = refl
+        at : (charge : Option Float) → (stale_battery ck clear now charge None ms).stale ≡ not (is_present charge)
+        at None = refl
+        at (Some p) = refl
+    stale_row clear charge (Some v) ms = refl
 
     -- the link, by how its age stands to the four limits
-    pub link_row : (clear : Timer) (stage : ℕ) (beat : OptionU32)
+    pub link_row : (clear : Timer) (stage : ℕ) (beat : Option ℕ)
         → (gcs_link ck clear stage now beat cfg).request
-        ≡ cond (ltb cfg.gcs_rtl_ms (gcs_age ck now beat)) (OptionAction.Some Action.ReturnToLaunch)
-        (cond (ltb cfg.gcs_hold_ms (gcs_age ck now beat)) (OptionAction.Some Action.Hold)
-        (cond (ltb cfg.gcs_warn_ms (gcs_age ck now beat)) (OptionAction.Some Action.Warn)
+        ≡ cond (ltb cfg.gcs_rtl_ms (gcs_age ck now beat)) (Some Action.ReturnToLaunch)
+        (cond (ltb cfg.gcs_hold_ms (gcs_age ck now beat)) (Some Action.Hold)
+        (cond (ltb cfg.gcs_warn_ms (gcs_age ck now beat)) (Some Action.Warn)
         (cond (leb (gcs_age ck now beat) cfg.gcs_clear_ms && not (held_for ck now clear true cfg.gcs_clear_hold_ms)) (stage_request stage)
-        OptionAction.None)))
+        None)))
     unfolding gcs_link gcs_stage gcs_clearing held_set stage_request
     link_row clear stage beat =
         at (ltb cfg.gcs_rtl_ms (gcs_age ck now beat)) (ltb cfg.gcs_hold_ms (gcs_age ck now beat)) (ltb cfg.gcs_warn_ms (gcs_age ck now beat)) (leb (gcs_age ck now beat) cfg.gcs_clear_ms)
       where
-        turned : (b : Bool) → cond b OptionAction.None (stage_request stage) ≡ cond (not b) (stage_request stage) OptionAction.None
+        turned : (b : Bool) → cond b None (stage_request stage) ≡ cond (not b) (stage_request stage) None
         turned true = refl
         turned false = refl
 
         at : (rtl hold warn good : Bool)
             → (cond rtl (gcs_stage clear 3) (cond hold (gcs_stage clear 2) (cond warn (gcs_stage clear 1)
-            (cond good (gcs_clearing ck clear stage now cfg.gcs_clear_hold_ms) (record { clear_timer = cleared; stage = stage; request = OptionAction.None }))))).request
-            ≡ cond rtl (OptionAction.Some Action.ReturnToLaunch) (cond hold (OptionAction.Some Action.Hold) (cond warn (OptionAction.Some Action.Warn)
-            (cond (good && not (held_for ck now clear true cfg.gcs_clear_hold_ms)) (stage_request stage) OptionAction.None)))
+            (cond good (gcs_clearing ck clear stage now cfg.gcs_clear_hold_ms) (record { clear_timer = cleared; stage = stage; request = None }))))).request
+            ≡ cond rtl (Some Action.ReturnToLaunch) (cond hold (Some Action.Hold) (cond warn (Some Action.Warn)
+            (cond (good && not (held_for ck now clear true cfg.gcs_clear_hold_ms)) (stage_request stage) None)))
         at true hold warn good = refl
         at false true warn good = refl
         at false false true good = refl
         at false false false true = turned (held_for ck now clear true cfg.gcs_clear_hold_ms)
         at false false false false = refl
 
-    pub stage_row : (clear : Timer) (stage : ℕ) (beat : OptionU32)
+    pub stage_row : (clear : Timer) (stage : ℕ) (beat : Option ℕ)
         → (gcs_link ck clear stage now beat cfg).stage
         ≡ cond (ltb cfg.gcs_rtl_ms (gcs_age ck now beat)) 3
         (cond (ltb cfg.gcs_hold_ms (gcs_age ck now beat)) 2
@@ -135,7 +132,7 @@ module _ (ck : Clock) (now : ℕ) where
       where
         at : (rtl hold warn good : Bool)
             → (cond rtl (gcs_stage clear 3) (cond hold (gcs_stage clear 2) (cond warn (gcs_stage clear 1)
-            (cond good (gcs_clearing ck clear stage now cfg.gcs_clear_hold_ms) (record { clear_timer = cleared; stage = stage; request = OptionAction.None }))))).stage
+            (cond good (gcs_clearing ck clear stage now cfg.gcs_clear_hold_ms) (record { clear_timer = cleared; stage = stage; request = None }))))).stage
             ≡ cond rtl 3 (cond hold 2 (cond warn 1 (cond (good && held_for ck now clear true cfg.gcs_clear_hold_ms) 0 stage)))
         at true hold warn good = refl
         at false true warn good = refl
@@ -166,27 +163,27 @@ module _ (ck : Clock) (now : ℕ) where
       -- ---- fence and altitudes: without a valid position no hold is met
 
       module _ (flying : Bool) (min_alt max_alt : Float) where
-        pub approach_row : (place : OptionPlace) → (fence ck s now place flying min_alt max_alt cfg).approach ≡ of_place place (λ p. le zero_f p.fence.m && lt p.fence.m cfg.fence_approach_m)
+        pub approach_row : (place : Option Place) → (fence ck s now place flying min_alt max_alt cfg).approach ≡ of_place place (λ p. le zero_f p.fence.m && lt p.fence.m cfg.fence_approach_m)
         unfolding fence fence_approach
-        approach_row OptionPlace.None = refl
-        approach_row (OptionPlace.Some p) = refl
+        approach_row None = refl
+        approach_row (Some p) = refl
 
-        pub breach_row : (keeps was : Bool) (place : OptionPlace)
+        pub breach_row : (keeps was : Bool) (place : Option Place)
             → raised_by keeps was (fence ck s now place flying min_alt max_alt cfg).breach
             ≡ raised_from keeps was
             (held_for ck now s.fence_breach_set (of_place place (λ p. lt p.fence.m zero_f)) cfg.fence_breach_set_ms)
             (held_for ck now s.fence_breach_clear (of_place place (λ p. le cfg.fence_breach_clear_m p.fence.m)) cfg.fence_breach_clear_ms)
         unfolding fence fence_breach raised_by
-        breach_row keeps was OptionPlace.None = refl
-        breach_row keeps was (OptionPlace.Some p) = pair keeps was _ _ _ _ _ _
+        breach_row keeps was None = refl
+        breach_row keeps was (Some p) = pair keeps was _ _ _ _ _ _
 
-        pub max_row : (place : OptionPlace)
+        pub max_row : (place : Option Place)
             → raised_by false false (fence ck s now place flying min_alt max_alt cfg).alt_max
             ≡ (held_for ck now s.alt_max_set (of_place place (λ p. lt max_alt p.alt_m)) cfg.alt_max_set_ms
             && not (held_for ck now s.alt_max_clear (of_place place (λ p. lt max_alt p.alt_m && lt p.alt_m (sub binary32 max_alt cfg.alt_max_clear_m))) cfg.alt_max_clear_hold_ms))
         unfolding fence altitude_max raised_by
-        max_row OptionPlace.None = refl
-        max_row (OptionPlace.Some p) = at (lt max_alt p.alt_m)
+        max_row None = refl
+        max_row (Some p) = at (lt max_alt p.alt_m)
           where
             low : Bool
             low = lt p.alt_m (sub binary32 max_alt cfg.alt_max_clear_m)
@@ -197,35 +194,35 @@ module _ (ck : Clock) (now : ℕ) where
             at true = pair false false _ _ true _ _ _
             at false = refl
 
-        pub min_row : (keeps was : Bool) (place : OptionPlace)
+        pub min_row : (keeps was : Bool) (place : Option Place)
             → raised_by keeps was (fence ck s now place flying min_alt max_alt cfg).alt_min
             ≡ raised_from keeps was
             (held_for ck now s.alt_min_set (of_place place (λ p. lt p.alt_m min_alt && lt cfg.alt_min_home_radius_m p.home_dist_m && flying)) cfg.alt_min_set_ms)
             (held_for ck now s.alt_min_clear (of_place place (λ p. lt (add binary32 min_alt cfg.alt_min_clear_m) p.alt_m || le p.home_dist_m cfg.alt_min_home_radius_m)) cfg.alt_min_clear_ms)
         unfolding fence altitude_min raised_by
-        min_row keeps was OptionPlace.None = refl
-        min_row keeps was (OptionPlace.Some p) = pair keeps was _ _ _ _ _ _
+        min_row keeps was None = refl
+        min_row keeps was (Some p) = pair keeps was _ _ _ _ _ _
 
       -- ---- the battery
 
-      module _ (volts : OptionF32) where
-        pub warn_row : (keeps was : Bool) (charge : OptionF32)
+      module _ (volts : Option Float) where
+        pub warn_row : (keeps was : Bool) (charge : Option Float)
             → raised_by keeps was (battery ck s now charge volts cfg).warn
             ≡ raised_from keeps was
             (held_for ck now s.bat_warn_set (of_value charge (λ p. lt p cfg.battery_warn_pct)) cfg.battery_warn_set_ms)
             (held_for ck now s.bat_warn_clear (of_value charge (λ p. lt cfg.battery_warn_clear_pct p)) cfg.battery_warn_clear_ms)
         unfolding battery battery_warn raised_by
-        warn_row keeps was OptionF32.None = refl
-        warn_row keeps was (OptionF32.Some p) = pair keeps was _ _ _ _ _ _
+        warn_row keeps was None = refl
+        warn_row keeps was (Some p) = pair keeps was _ _ _ _ _ _
 
-        pub low_row : (keeps was : Bool) (charge : OptionF32)
+        pub low_row : (keeps was : Bool) (charge : Option Float)
             → raised_by keeps was (battery ck s now charge volts cfg).low
             ≡ raised_from keeps was
             (held_for ck now s.bat_low_set (of_value charge (λ p. lt p cfg.battery_low_pct)) cfg.battery_low_set_ms)
             (held_for ck now s.bat_low_clear (of_value charge (λ p. lt cfg.battery_low_clear_pct p)) cfg.battery_low_clear_ms)
         unfolding battery battery_low raised_by
-        low_row keeps was OptionF32.None = refl
-        low_row keeps was (OptionF32.Some p) = pair keeps was _ _ _ _ _ _
+        low_row keeps was None = refl
+        low_row keeps was (Some p) = pair keeps was _ _ _ _ _ _
 
         crit_met : (p : Float)
             → (battery_critical ck s.bat_crit_set now p volts cfg).met
@@ -233,45 +230,45 @@ module _ (ck : Clock) (now : ℕ) where
         unfolding battery_critical
         crit_met p = met _ _ _ ∙ ap (λ (b : Bool). held_for ck now s.bat_crit_set (lt p cfg.battery_critical_pct || b) cfg.battery_critical_set_ms) (low volts)
           where
-            low : (v : OptionF32) → low_voltage v cfg ≡ of_value v (λ x. lt x (mul binary32 cfg.battery_critical_v_per_cell (of_int binary32 (pos cfg.cell_count))))
-            low OptionF32.None = refl
-            low (OptionF32.Some x) = refl
+            low : (v : Option Float) → low_voltage v cfg ≡ of_value v (λ x. lt x (mul binary32 cfg.battery_critical_v_per_cell (of_int binary32 (pos cfg.cell_count))))
+            low None = refl
+            low (Some x) = refl
 
-        pub latch_row : (charge : OptionF32)
+        pub latch_row : (charge : Option Float)
             → (battery ck s now charge volts cfg).latched
             ≡ (s.battery_critical_latched || held_for ck now s.bat_crit_set (of_value charge (λ p. lt p cfg.battery_critical_pct || of_value volts (λ v. lt v (mul binary32 cfg.battery_critical_v_per_cell (of_int binary32 (pos cfg.cell_count)))))) cfg.battery_critical_set_ms)
         unfolding battery battery_critical
-        latch_row OptionF32.None = or_false _
-        latch_row (OptionF32.Some p) = ap (λ (b : Bool). s.battery_critical_latched || b) (crit_met p)
+        latch_row None = or_false _
+        latch_row (Some p) = ap (λ (b : Bool). s.battery_critical_latched || b) (crit_met p)
 
-        pub critical_row : (charge : OptionF32)
+        pub critical_row : (charge : Option Float)
             → (battery ck s now charge volts cfg).critical
             ≡ (is_present charge && (s.battery_critical_latched || held_for ck now s.bat_crit_set (of_value charge (λ p. lt p cfg.battery_critical_pct || of_value volts (λ v. lt v (mul binary32 cfg.battery_critical_v_per_cell (of_int binary32 (pos cfg.cell_count)))))) cfg.battery_critical_set_ms))
         unfolding battery battery_critical
-        critical_row OptionF32.None = refl
-        critical_row (OptionF32.Some p) = ap (λ (b : Bool). s.battery_critical_latched || b) (crit_met p)
+        critical_row None = refl
+        critical_row (Some p) = ap (λ (b : Bool). s.battery_critical_latched || b) (crit_met p)
 
       -- ---- the energy
 
-      pub marginal_row : (keeps was : Bool) (margin : OptionF32)
+      pub marginal_row : (keeps was : Bool) (margin : Option Float)
           → raised_by keeps was (energy ck s now margin cfg).marginal
           ≡ raised_from keeps was
           (held_for ck now s.energy_marg_set (of_value margin (λ m. le zero_f m && lt m cfg.energy_marginal_wh)) cfg.energy_marginal_set_ms)
           (held_for ck now s.energy_marg_clear (of_value margin (λ m. lt cfg.energy_marginal_clear_wh m)) cfg.energy_marginal_clear_ms)
       unfolding energy energy_marginal raised_by
-      marginal_row keeps was OptionF32.None = refl
-      marginal_row keeps was (OptionF32.Some m) = pair keeps was _ _ _ _ _ _
+      marginal_row keeps was None = refl
+      marginal_row keeps was (Some m) = pair keeps was _ _ _ _ _ _
 
-      pub short_row : (margin : OptionF32)
+      pub short_row : (margin : Option Float)
           → (energy ck s now margin cfg).latched
           ≡ (s.energy_infeasible_latched || held_for ck now s.energy_infeas_set (of_value margin (λ m. lt m zero_f)) cfg.energy_infeasible_set_ms)
       unfolding energy
-      short_row OptionF32.None = or_false _
-      short_row (OptionF32.Some m) = ap (λ (b : Bool). s.energy_infeasible_latched || b) (met _ _ _)
+      short_row None = or_false _
+      short_row (Some m) = ap (λ (b : Bool). s.energy_infeasible_latched || b) (met _ _ _)
 
-      pub infeasible_row : (margin : OptionF32)
+      pub infeasible_row : (margin : Option Float)
           → (energy ck s now margin cfg).infeasible
           ≡ (is_present margin && (s.energy_infeasible_latched || held_for ck now s.energy_infeas_set (of_value margin (λ m. lt m zero_f)) cfg.energy_infeasible_set_ms))
       unfolding energy
-      infeasible_row OptionF32.None = refl
-      infeasible_row (OptionF32.Some m) = ap (λ (b : Bool). s.energy_infeasible_latched || b) (met _ _ _)
+      infeasible_row None = refl
+      infeasible_row (Some m) = ap (λ (b : Bool). s.energy_infeasible_latched || b) (met _ _ _)

@@ -1,20 +1,15 @@
 -- The claim: each reason's slot is filed as its row says, by a step of the triggers and by a whole step. Assumes nothing.
-use Rattle.std.specs.Prelude.{ℕ, Bool, true, false, ◌≡◌, length, get_or, Float}
-use Rattle.types.specs.declared.OptionAction.{OptionAction}
+use Rattle.std.specs.Prelude.{ℕ, Bool, true, false, ◌≡◌, length, get_or, Float, Option, Some, None}
 use Rattle.types.specs.declared.Reason.{Reason}
-use Rattle.types.specs.declared.Slot.{Slot}
+use Rattle.types.specs.declared.Request.{Request}
 use Rattle.types.specs.declared.ActiveSet.{ActiveSet}
-use Rattle.types.specs.declared.OptionF32.{OptionF32}
-use Rattle.types.specs.declared.OptionPositionSample.{OptionPositionSample}
 use Rattle.types.specs.declared.Telemetry.{Telemetry}
 use Rattle.types.specs.Numbers.{index}
-use Rattle.types.specs.ActiveSet.{no_request, slot_of}
 use Rattle.time.specs.Time.{Clock}
 use Rattle.config.specs.declared.Config.{Config}
 use Rattle.validate.specs.Bounds.{validate_telemetry}
 use Rattle.validate.specs.Glitch.{apply_glitch_filter}
 use Rattle.validate.specs.Fresh.{position_valid, fresh_remaining_wh}
-use Rattle.triggers.specs.declared.OptionPlace.{OptionPlace}
 use Rattle.triggers.specs.declared.TriggerState.{TriggerState}
 use Rattle.triggers.specs.declared.Updated.{Updated}
 use Rattle.triggers.specs.Update.{update}
@@ -23,20 +18,23 @@ use Rattle.supervisor.specs.Settings.{Settings, Fed}
 use Rattle.supervisor.specs.Step.{place_of, valid_place, energy_at, margin_at, step}
 use Rattle.step_laws.specs.Laws.{clock_at, validated, disarms, after}
 use Rattle.reasons.specs.Reasons.{is_filed, filed, filed_on_fault, filed_on_disarm, battery_latch, energy_latch, link_stage, raised_next}
+use Rattle.types.specs.declared.PositionSample.{PositionSample}
+use Rattle.types.specs.declared.Action.{Action}
+use Rattle.triggers.specs.declared.Place.{Place}
 
--- a reason's slot: present with the action, or absent
-abbrev pub slot_for : Reason → OptionAction → Slot
-slot_for r OptionAction.None = no_request
-slot_for r (OptionAction.Some a) = slot_of r a
+-- what a reason's slot holds: the request for the action, where there is one
+abbrev pub slot_for : Reason → Option Action → Option Request
+slot_for r None = None
+slot_for r (Some a) = Some (record { reason = r; action = a })
 
 -- the nineteen slots are filed by a rule
-pub record Files (s : ActiveSet) (rule : Reason → OptionAction) : Type 0 where
+pub record Files (s : ActiveSet) (rule : Reason → Option Action) : Type 0 where
   pub count : length s.reqs ≡ 19
-  pub slot : (r : Reason) → get_or s.reqs (index r) no_request ≡ slot_for r (rule r)
+  pub slot : (r : Reason) → get_or s.reqs (index r) None ≡ slot_for r (rule r)
 
 -- ---- a step of the triggers, on any readings
 
-module _ (clock : Clock) (before : TriggerState) (t : Telemetry) (cfg : Config) (min_alt max_alt : Float) (place : OptionPlace) (margin : OptionF32) (invalid : Bool) where
+module _ (clock : Clock) (before : TriggerState) (t : Telemetry) (cfg : Config) (min_alt max_alt : Float) (place : Option Place) (margin : Option Float) (invalid : Bool) where
   -- the latches, the link's stage and what is raised after a sound step
   pub record Left (s : TriggerState) : Type 0 where
     pub battery_latch_lem : s.battery_critical_latched ≡ battery_latch clock before t cfg min_alt max_alt place margin invalid
@@ -56,7 +54,7 @@ module _ (clock : Clock) (before : TriggerState) (t : Telemetry) (cfg : Config) 
 
 abbrev pub UpdateClaim : Type 0
 UpdateClaim =
-    (clock : Clock) (before : TriggerState) (t : Telemetry) (cfg : Config) (min_alt max_alt : Float) (place : OptionPlace) (margin : OptionF32) (invalid : Bool)
+    (clock : Clock) (before : TriggerState) (t : Telemetry) (cfg : Config) (min_alt max_alt : Float) (place : Option Place) (margin : Option Float) (invalid : Bool)
     → UpdateReasons clock before t cfg min_alt max_alt place margin invalid
 
 -- ---- a whole step, at its validated readings
@@ -66,19 +64,19 @@ module _ (r : Settings) (s : Supervisor) (fed : Fed) where
   now = (validated r s fed).now_ms
 
   -- what the glitch filter lets through
-  abbrev pub filtered : OptionPositionSample
+  abbrev pub filtered : Option PositionSample
   filtered = (apply_glitch_filter r.clock s.glitch now (validated r s fed).position r.cfg.v_max).position
 
   -- what is read at it
-  abbrev pub place_at : OptionPlace
+  abbrev pub place_at : Option Place
   place_at = place_of fed.site.near filtered
 
   -- for fence and altitudes it must be valid: fresh, with a fresh ekf_ok of true
-  abbrev pub valid_place_at : OptionPlace
+  abbrev pub valid_place_at : Option Place
   valid_place_at = valid_place (position_valid r.clock now filtered (validated r s fed).ekf_ok r.cfg.pos_fresh_ms r.cfg.status_fresh_ms) place_at
 
   -- for the energy it need not be valid
-  abbrev pub margin_left : OptionF32
+  abbrev pub margin_left : Option Float
   margin_left =
       margin_at place_at
       (energy_at r.cfg place_at (fresh_remaining_wh r.clock now (validated r s fed).battery r.cfg.battery_fresh_ms r.cfg.usable_capacity_wh)).margin_wh

@@ -1,16 +1,12 @@
 -- When each reason is filed, and with which action: a row a reason, in the order of the enum. Assumes nothing.
 -- The step is sound and no confirmed disarm. Readings are validated, ages are at the step's reading of the clock, timers and latches are those before the step.
-use Rattle.std.specs.Prelude.{ℕ, Bool, true, false, not, ◌&&◌, ◌||◌, cond, leb, ltb, eqb, pos, Float}
+use Rattle.std.specs.Prelude.{ℕ, Bool, true, false, not, ◌&&◌, ◌||◌, cond, leb, ltb, eqb, pos, Float, Option, Some, None}
 use Rattle.std.specs.Float.{binary32}
 use Rattle.std.specs.Float.Ieee.{add, sub, mul, lt, le, of_int}
 use Rattle.float32.specs.Binary32.{zero_f, two}
 use Rattle.types.specs.declared.Action.{Action}
-use Rattle.types.specs.declared.OptionAction.{OptionAction}
 use Rattle.types.specs.declared.Reason.{Reason}
-use Rattle.types.specs.declared.OptionU8.{OptionU8}
-use Rattle.types.specs.declared.OptionF32.{OptionF32}
 use Rattle.types.specs.declared.GpsSample.{GpsSample}
-use Rattle.types.specs.declared.OptionGpsSample.{OptionGpsSample}
 use Rattle.types.specs.declared.Telemetry.{Telemetry}
 use Rattle.types.specs.Numbers.{index}
 use Rattle.time.specs.Time.{Clock, hold_met}
@@ -19,7 +15,6 @@ use Rattle.timers.specs.Timer.{since_or}
 use Rattle.config.specs.declared.Config.{Config}
 use Rattle.validate.specs.Fresh.{fresh_true, fresh_landed, fresh_gps, fresh_battery_percent, fresh_voltage}
 use Rattle.triggers.specs.declared.Place.{Place}
-use Rattle.triggers.specs.declared.OptionPlace.{OptionPlace}
 use Rattle.triggers.specs.declared.TriggerState.{TriggerState}
 use Rattle.triggers.specs.declared.Raised.{Raised}
 use Rattle.triggers.specs.Families.{gcs_age, stage_request, two_and_a_half, is3d, in_air, is_present}
@@ -29,13 +24,13 @@ use Rattle.triggers.specs.Update.{none_raised}
 
 -- filed with an action where a test holds, and else not
 infix 10 ◌when◌
-abbrev pub ◌when◌ : Action → Bool → OptionAction
-◌when◌ a test = cond test (OptionAction.Some a) OptionAction.None
+abbrev pub ◌when◌ : Action → Bool → Option Action
+◌when◌ a test = cond test (Some a) None
 
 -- whether there is a request
-abbrev pub is_filed : OptionAction → Bool
-is_filed OptionAction.None = false
-is_filed (OptionAction.Some a) = true
+abbrev pub is_filed : Option Action → Bool
+is_filed None = false
+is_filed (Some a) = true
 
 -- a test that holds at this step and has held for `ms`: since its timer started, or since now. A step without a valid position, a fresh charge or a margin leaves the
 -- timers of tests on it as they are (crates/triggers/specs/Families.antt has each timer).
@@ -48,27 +43,27 @@ abbrev pub raised_from : Bool → Bool → Bool → Bool → Bool
 raised_from keeps was set_held clear_held = cond keeps (set_held || (was && not clear_held)) (set_held && not clear_held)
 
 -- a test of a reading: false where there is none
-abbrev pub of_count : OptionU8 → (ℕ → Bool) → Bool
-of_count OptionU8.None test = false
-of_count (OptionU8.Some n) test = test n
+abbrev pub of_count : Option ℕ → (ℕ → Bool) → Bool
+of_count None test = false
+of_count (Some n) test = test n
 
-abbrev pub of_value : OptionF32 → (Float → Bool) → Bool
-of_value OptionF32.None test = false
-of_value (OptionF32.Some x) test = test x
+abbrev pub of_value : Option Float → (Float → Bool) → Bool
+of_value None test = false
+of_value (Some x) test = test x
 
-abbrev pub of_sample : OptionGpsSample → (GpsSample → Bool) → Bool
-of_sample OptionGpsSample.None test = false
-of_sample (OptionGpsSample.Some g) test = test g
+abbrev pub of_sample : Option GpsSample → (GpsSample → Bool) → Bool
+of_sample None test = false
+of_sample (Some g) test = test g
 
-abbrev pub of_place : OptionPlace → (Place → Bool) → Bool
-of_place OptionPlace.None test = false
-of_place (OptionPlace.Some p) test = test p
+abbrev pub of_place : Option Place → (Place → Bool) → Bool
+of_place None test = false
+of_place (Some p) test = test p
 
 -- ---- the rows
 
 -- `before` is the state of the triggers before the step, `place` what is read at a valid position, `margin` what is left of the energy after a return, `invalid`
 -- whether a reading was out of bounds
-module _ (clock : Clock) (before : TriggerState) (t : Telemetry) (cfg : Config) (min_alt max_alt : Float) (place : OptionPlace) (margin : OptionF32) (invalid : Bool) where
+module _ (clock : Clock) (before : TriggerState) (t : Telemetry) (cfg : Config) (min_alt max_alt : Float) (place : Option Place) (margin : Option Float) (invalid : Bool) where
   -- at the step's reading of the clock
   abbrev pub held : Timer → Bool → ℕ → Bool
   held = held_for clock t.now_ms
@@ -78,7 +73,7 @@ module _ (clock : Clock) (before : TriggerState) (t : Telemetry) (cfg : Config) 
   raised = raised_from cfg.keeps_raised
 
   -- fresh readings
-  abbrev pub gps_sample : OptionGpsSample
+  abbrev pub gps_sample : Option GpsSample
   gps_sample = fresh_gps clock t.now_ms t.gps cfg.gps_fresh_ms
 
   abbrev pub rc_ok : Bool
@@ -91,10 +86,10 @@ module _ (clock : Clock) (before : TriggerState) (t : Telemetry) (cfg : Config) 
   flying = in_air (fresh_landed clock t.now_ms t.landed cfg.status_fresh_ms)
 
   -- in percent: of a fresh remaining_wh, else the fresh percentage
-  abbrev pub charge : OptionF32
+  abbrev pub charge : Option Float
   charge = fresh_battery_percent clock t.now_ms t.battery cfg.battery_fresh_ms cfg.usable_capacity_wh
 
-  abbrev pub voltage : OptionF32
+  abbrev pub voltage : Option Float
   voltage = fresh_voltage clock t.now_ms t.battery cfg.battery_fresh_ms
 
   -- below battery_critical_v_per_cell a cell
@@ -119,11 +114,11 @@ module _ (clock : Clock) (before : TriggerState) (t : Telemetry) (cfg : Config) 
       || held before.energy_infeas_set (of_value margin (λ m. lt m zero_f)) cfg.energy_infeasible_set_ms
 
   -- the eight that are `raised`: the first test has held; under kind 11 they then stay until the second has
-  unfoldable pub filed : Reason → OptionAction
+  unfoldable pub filed : Reason → Option Action
   -- never
-  filed Reason.None = OptionAction.None
+  filed Reason.None = None
   -- at a faulted step only, and then alone
-  filed Reason.ClockFault = OptionAction.None
+  filed Reason.ClockFault = None
   -- a reading is out of bounds; or one was, and it is less than invalid_input_clear_ms since the first step without
   filed Reason.InvalidInput =
       Action.Warn when invalid || (before.invalid_active && not (held before.invalid_clear true cfg.invalid_input_clear_ms))
@@ -132,11 +127,11 @@ module _ (clock : Clock) (before : TriggerState) (t : Telemetry) (cfg : Config) 
   -- a heartbeat older than gcs_rtl_ms, gcs_hold_ms or gcs_warn_ms, tried in this order, or none. At most gcs_clear_ms old: what the stage before asks for
   -- (3 ReturnToLaunch, 2 Hold, 1 Warn), until that has held for gcs_clear_hold_ms. Between gcs_clear_ms and gcs_warn_ms: not.
   filed Reason.GcsLinkLost =
-      cond (ltb cfg.gcs_rtl_ms link_age) (OptionAction.Some Action.ReturnToLaunch)
-      (cond (ltb cfg.gcs_hold_ms link_age) (OptionAction.Some Action.Hold)
-      (cond (ltb cfg.gcs_warn_ms link_age) (OptionAction.Some Action.Warn)
+      cond (ltb cfg.gcs_rtl_ms link_age) (Some Action.ReturnToLaunch)
+      (cond (ltb cfg.gcs_hold_ms link_age) (Some Action.Hold)
+      (cond (ltb cfg.gcs_warn_ms link_age) (Some Action.Warn)
       (cond (leb link_age cfg.gcs_clear_ms && not (held before.gcs_clear_timer true cfg.gcs_clear_hold_ms)) (stage_request before.gcs_stage)
-      OptionAction.None)))
+      None)))
   -- the hand controller is required and there is no fresh rc_ok of true. Kind 1: at each such step; kind 11: where that has held for rc_lost_set_ms.
   filed Reason.RcLost =
       let lost = cfg.rc_required && not rc_ok in
@@ -157,7 +152,7 @@ module _ (clock : Clock) (before : TriggerState) (t : Telemetry) (cfg : Config) 
       (held before.ekf_set (not ekf_ok) cfg.ekf_unhealthy_set_ms)
       (held before.ekf_clear ekf_ok cfg.ekf_unhealthy_clear_ms)
   -- never: the arbiter shows it where Hold or ReturnToLaunch lacks a valid position
-  filed Reason.PositionInvalid = OptionAction.None
+  filed Reason.PositionInvalid = None
   -- a valid position inside, nearer to the bounds than fence_approach_m
   filed Reason.FenceApproach =
       Action.Warn when of_place place (λ p. le zero_f p.fence.m && lt p.fence.m cfg.fence_approach_m)
@@ -226,9 +221,9 @@ module _ (clock : Clock) (before : TriggerState) (t : Telemetry) (cfg : Config) 
       none_raised
 
 -- at a faulted step: ClockFault alone
-abbrev pub filed_on_fault : Reason → OptionAction
+abbrev pub filed_on_fault : Reason → Option Action
 filed_on_fault r = Action.Warn when eqb (index Reason.ClockFault) (index r)
 
 -- at a confirmed disarm: nothing
-abbrev pub filed_on_disarm : Reason → OptionAction
-filed_on_disarm r = OptionAction.None
+abbrev pub filed_on_disarm : Reason → Option Action
+filed_on_disarm r = None

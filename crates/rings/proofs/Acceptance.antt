@@ -1,4 +1,5 @@
 -- What the tests of a polygon tell: its corners are Accepted. Assumes nothing.
+use Rattle.std.specs.Prelude.{Result, Ok, Err, ⊤}
 use mathlib.Core.Path.{◌≡◌, refl, sym, ◌∙◌}
 use mathlib.Core.Bool.{Bool, true, false, not, ◌||◌}
 use mathlib.Core.List.{List, [], ◌∷◌, foldl}
@@ -11,50 +12,50 @@ use Rattle.corners.specs.Ring.{any_meets, tails}
 use Rattle.corners.specs.Acceptance.{recurs}
 use Rattle.float32.specs.Libm.{is_finite}
 use Rattle.float32.specs.Libm.{fabs}
-use Rattle.corners.specs.Acceptance.{envelope, result_and, fault_if, first_fault, corner_fault, polygon_tests, polygon_fault}
+use Rattle.std.specs.Result.{result_and}
+use Rattle.corners.specs.Acceptance.{envelope, fault_if, first_fault, corner_fault, polygon_tests, polygon_fault}
 use Rattle.types.specs.declared.Point2.{Point2}
 use Rattle.corners.specs.declared.FenceError.{FenceError}
-use Rattle.corners.specs.declared.FenceResult.{FenceResult}
 use Rattle.rings.proofs.Corner.{Finite}
 
-never : (e : FenceError) → FenceResult.Err e ≡ FenceResult.Ok → ⊥
+never : (e : FenceError) → ◌≡◌ {A = Result ⊤ FenceError} (Err e) (Ok tt) → ⊥
 never e h = let z : ◌≡◌ {A = ℕ} 0 1 = cc in omega arith
 
 -- every one of the tests is passed where the first fault is none
-module _ {A : Type 0} (f : A → FenceResult) where
-  fault_stays : (e : FenceError) (l : List A) → foldl (λ v a. result_and v (f a)) (FenceResult.Err e) l ≡ FenceResult.Err e
+module _ {A : Type 0} (f : A → Result ⊤ FenceError) where
+  fault_stays : (e : FenceError) (l : List A) → foldl (λ v a. result_and v (f a)) (Err e) l ≡ Err e
   fault_stays e [] = refl
   fault_stays e (a ∷ l) = fault_stays e l
 
-  pub first_ok : (l : List A) → first_fault f l ≡ FenceResult.Ok → All (λ a. f a ≡ FenceResult.Ok) l
+  pub first_ok : (l : List A) → first_fault f l ≡ Ok tt → All (λ a. f a ≡ Ok tt) l
   first_ok [] h = tt
   first_ok (a ∷ l) h = by (f a) refl (λ k. first_ok l k)
     where
-      by : (r : FenceResult) → f a ≡ r → (first_fault f l ≡ FenceResult.Ok → All (λ a. f a ≡ FenceResult.Ok) l) → (f a ≡ FenceResult.Ok) × All (λ a. f a ≡ FenceResult.Ok) l
-      by FenceResult.Ok e next = (e, next (rw e at h))
-      by (FenceResult.Err x) e next = absurd (never x (sym (fault_stays x l) ∙ (rw e at h)))
+      by : (r : Result ⊤ FenceError) → f a ≡ r → (first_fault f l ≡ Ok tt → All (λ a. f a ≡ Ok tt) l) → (f a ≡ Ok tt) × All (λ a. f a ≡ Ok tt) l
+      by (Ok tt) e next = (e, next (rw e at h))
+      by (Err x) e next = absurd (never x (sym (fault_stays x l) ∙ (rw e at h)))
 
-no_fault : (b : Bool) (e : FenceError) → fault_if b e ≡ FenceResult.Ok → b ≡ false
+no_fault : (b : Bool) (e : FenceError) → fault_if b e ≡ Ok tt → b ≡ false
 no_fault true e h = absurd (never e h)
 no_fault false e h = refl
 
-corner_finite : (p : Point2) → corner_fault p ≡ FenceResult.Ok → Finite p
+corner_finite : (p : Point2) → corner_fault p ≡ Ok tt → Finite p
 unfolding corner_fault
 corner_finite p h = by (is_finite p.n) (is_finite p.e) refl refl h
   where
-    rest : FenceResult
+    rest : Result ⊤ FenceError
     rest = fault_if (lt envelope (fabs p.n) || lt envelope (fabs p.e)) FenceError.OutOfEnvelope
 
-    by : (a b : Bool) → is_finite p.n ≡ a → is_finite p.e ≡ b → result_and (fault_if (not a || not b) FenceError.NonFinite) rest ≡ FenceResult.Ok → Finite p
+    by : (a b : Bool) → is_finite p.n ≡ a → is_finite p.e ≡ b → result_and (fault_if (not a || not b) FenceError.NonFinite) rest ≡ Ok tt → Finite p
     by true true d e k = (d, e)
     by true false d e k = absurd (never FenceError.NonFinite k)
     by false b d e k = absurd (never FenceError.NonFinite k)
 
-all_finite : (l : List Point2) → All (λ p. corner_fault p ≡ FenceResult.Ok) l → All Finite l
+all_finite : (l : List Point2) → All (λ p. corner_fault p ≡ Ok tt) l → All Finite l
 all_finite [] h = tt
 all_finite (p ∷ l) h = (corner_finite p h.0, all_finite l h.1)
 
-pub accepted : (once : Bool) (n : ℕ) (l : List Point2) → polygon_fault once n l ≡ FenceResult.Ok → Accepted l
+pub accepted : (once : Bool) (n : ℕ) (l : List Point2) → polygon_fault once n l ≡ Ok tt → Accepted l
 unfolding polygon_tests
 accepted once n l h =
     let t = first_ok (λ v. v) (polygon_tests once n l) h in

@@ -1,5 +1,8 @@
 -- Demand 3 for every list of calls of the step entry, by the ladder's claim for every list of steps: the state image after the calls is the state after the steps,
 -- and the record read off the bytes is the record of those steps. Assumes nothing.
+use Rattle.types.specs.declared.UnknownNumber.{UnknownNumber}
+use Rattle.std.specs.Result.{result_unwrap_or}
+use Rattle.std.specs.Prelude.{Result}
 use Prim.Native.Nat.{ℕ, ◌≤◌}
 use mathlib.Core.Bool.{Bool, true, false, cond}
 use mathlib.Core.List.{List, [], ◌∷◌, ◌++◌}
@@ -23,7 +26,7 @@ use Rattle.supervisor.specs.Rules.{Rules}
 use Rattle.supervisor.proofs.Rules.{either, fresh_rules, step_rules}
 use Rattle.wire.specs.Fields.{Bytes, u8_at, le_bytes, le8, le16}
 use Rattle.wire.specs.Frame.{frame_head, room_fault, frame_written}
-use Rattle.options.specs.Enums.{action_or_nominal, action_at, le_action}
+use Rattle.options.specs.Enums.{action_at, le_action}
 use Rattle.frame_config.specs.declared.ConfigRead.{ConfigRead}
 use Rattle.frame_config.specs.ConfigFrame.{read_config}
 use Rattle.frame_fence.specs.FenceFrame.{read_fence}
@@ -41,6 +44,7 @@ use Rattle.ladder.specs.Claim.{ObeysAll}
 use Rattle.ladder.proofs.Run.{ladder_claim}
 use Rattle.run.specs.Run.{Call, Beside, on, shown_action, flight_of, fed_by, state_bytes, answered, Under, UnderConfig, fed, record_of_calls, RunClaim, SameFlight, OneFlightClaim}
 use Rattle.run.proofs.Forms.{TypedOf, FitsOf, state_size_lem, value_back, fresh_typed_of, fresh_fits_of, step_typed_of, step_fits_of, due, telemetry_in_lem}
+use Rattle.types.specs.declared.Action.{Action}
 
 -- ---- an accepted flight steps with the fence's own distance
 
@@ -79,8 +83,8 @@ roomy with_side form next state output z = at (ltb (length output) (output_size 
 
 action_shown_lem : (with_side : Bool) (d : Decision) (side : ℕ) (rest : List ℕ) → shown_action (output_frame with_side d side ++ rest) ≡ d.action
 unfolding action_at u8_at side_frame decision_frame frame_head le16 le_bytes le_action le8
-action_shown_lem false d side rest = ap action_or_nominal (action_of_rank_lem d.action)
-action_shown_lem true d side rest = ap action_or_nominal (action_of_rank_lem d.action)
+action_shown_lem false d side rest = ap (λ (r : Result Action UnknownNumber). result_unwrap_or r Action.Nominal) (action_of_rank_lem d.action)
+action_shown_lem true d side rest = ap (λ (r : Result Action UnknownNumber). result_unwrap_or r Action.Nominal) (action_of_rank_lem d.action)
 
 -- ---- a run begins with a fresh state
 

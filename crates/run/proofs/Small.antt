@@ -1,32 +1,29 @@
 -- Every number that a state holds after a step is one that it held, or the step's own reading or sample: so it stays within its type. Assumes nothing.
+use Rattle.std.specs.Prelude.{Option, Some, None, unwrap_or}
 use Prim.Native.Nat.{ℕ, ◌<◌, ◌^◌}
 use mathlib.Core.Bool.{Bool, true, false, cond, ◌||◌}
 use lib.Dec.{leb, ltb, lit<}
 use lib.Ieee.{Float, binary32, lt, sub}
-use Rattle.types.specs.declared.OptionAction.{OptionAction}
-use Rattle.types.specs.declared.OptionU32.{OptionU32}
-use Rattle.types.specs.declared.OptionF32.{OptionF32}
 use Rattle.types.specs.declared.Telemetry.{Telemetry}
 use Rattle.time.specs.Time.{Clock}
 use Rattle.config.specs.declared.Config.{Config}
 use Rattle.validate.specs.Fresh.{fresh_true}
 use Rattle.supervisor.proofs.Rules.{either}
 use Rattle.wire.specs.Cell.{Within}
-use Rattle.options.specs.Options.{u32_or_zero}
 use Rattle.timers.specs.declared.Timer.{Timer}
 use Rattle.timers.specs.declared.PairHeld.{PairHeld}
 use Rattle.triggers.specs.declared.GcsLink.{GcsLink}
 use Rattle.triggers.specs.declared.StaleBattery.{StaleBattery}
-use Rattle.triggers.specs.declared.OptionPlace.{OptionPlace}
 use Rattle.triggers.specs.declared.TriggerState.{TriggerState}
 use Rattle.timers.specs.Timer.{cleared, since_or, held_set, hold_pair, rested}
 use Rattle.triggers.specs.Families.{invalid_input, gcs_age, gcs_stage, gcs_clearing, gcs_link, rc_link, gps, ekf, fence_breach, altitude_max, altitude_min, fence, is_present, stale_battery, battery_warn, battery_low, battery_critical, battery, energy_marginal, energy}
 use Rattle.triggers.specs.Update.{families, next_triggers, update}
 use Rattle.frame_state.specs.StateFrame.{timer_cells}
+use Rattle.triggers.specs.declared.Place.{Place}
 
 -- a number of 32 bits, or none
-abbrev pub Small : OptionU32 → Type 0
-Small o = u32_or_zero o < 2 ^ 32
+abbrev pub Small : Option ℕ → Type 0
+Small o = unwrap_or o 0 < 2 ^ 32
 
 abbrev SmallTimer : Timer → Type 0
 SmallTimer t = Small t.since_ms
@@ -36,9 +33,9 @@ pub chosen : {A : Type 0} (P : A → Type 0) (b : Bool) (x y : A) → P x → P 
 chosen P true x y p q = p
 chosen P false x y p q = q
 
-since_small : (o : OptionU32) (now : ℕ) → Small o → now < 2 ^ 32 → since_or o now < 2 ^ 32
-since_small OptionU32.None now h n = n
-since_small (OptionU32.Some t) now h n = h
+since_small : (o : Option ℕ) (now : ℕ) → Small o → now < 2 ^ 32 → since_or o now < 2 ^ 32
+since_small None now h n = n
+since_small (Some t) now h n = h
 
 -- on any clock
 module _ (ck : Clock) where
@@ -55,12 +52,12 @@ module _ (ck : Clock) where
   abbrev Linked : GcsLink → Type 0
   Linked r = SmallTimer r.clear_timer
 
-  link_small : (t : Timer) (stage now : ℕ) (hb : OptionU32) (cfg : Config) → SmallTimer t → now < 2 ^ 32 → SmallTimer (gcs_link ck t stage now hb cfg).clear_timer
+  link_small : (t : Timer) (stage now : ℕ) (hb : Option ℕ) (cfg : Config) → SmallTimer t → now < 2 ^ 32 → SmallTimer (gcs_link ck t stage now hb cfg).clear_timer
   unfolding gcs_link gcs_stage gcs_clearing
   link_small t stage now hb cfg h n =
       let a = gcs_age ck now hb in
       let clearing = gcs_clearing ck t stage now cfg.gcs_clear_hold_ms in
-      let between : GcsLink = record { clear_timer = cleared; stage = stage; request = OptionAction.None } in
+      let between : GcsLink = record { clear_timer = cleared; stage = stage; request = None } in
       chosen Linked (ltb cfg.gcs_rtl_ms a) (gcs_stage t 3) _ h
       (chosen Linked (ltb cfg.gcs_hold_ms a) (gcs_stage t 2) _ h
       (chosen Linked (ltb cfg.gcs_warn_ms a) (gcs_stage t 1) _ h
@@ -72,7 +69,7 @@ module _ (ck : Clock) where
       either (λ b. SmallTimer (cond b clear (held_set ck clear now good cfg.rc_lost_clear_ms).timer)) h (held_small clear now good cfg.rc_lost_clear_ms h n)
       (held_set ck set now _ _).met
 
-  stale_small : (t : Timer) (now : ℕ) (p v : OptionF32) (ms : ℕ) → SmallTimer t → now < 2 ^ 32 → SmallTimer (stale_battery ck t now p v ms).clear
+  stale_small : (t : Timer) (now : ℕ) (p v : Option Float) (ms : ℕ) → SmallTimer t → now < 2 ^ 32 → SmallTimer (stale_battery ck t now p v ms).clear
   unfolding stale_battery
   stale_small t now p v ms h n =
       chosen (λ (r : StaleBattery). SmallTimer r.clear) (is_present v || is_present p)
@@ -90,24 +87,24 @@ module _ (ck : Clock) where
       (held_small set now true cfg.alt_max_set_ms hs n, held_small clear now (lt alt (sub binary32 hi cfg.alt_max_clear_m)) cfg.alt_max_clear_hold_ms hc n)
       (lit< tt, lit< tt)
 
-  fence_small : (s : TriggerState) (now : ℕ) (p : OptionPlace) (f : Bool) (lo hi : Float) (cfg : Config) → SmallTimer s.fence_breach_set × (SmallTimer s.fence_breach_clear × (SmallTimer s.alt_max_set × (SmallTimer s.alt_max_clear × (SmallTimer s.alt_min_set × (SmallTimer s.alt_min_clear))))) → now < 2 ^ 32 → SmallTimer (fence ck s now p f lo hi cfg).breach.set × (SmallTimer (fence ck s now p f lo hi cfg).breach.clear × (SmallTimer (fence ck s now p f lo hi cfg).alt_max.set × (SmallTimer (fence ck s now p f lo hi cfg).alt_max.clear × (SmallTimer (fence ck s now p f lo hi cfg).alt_min.set × (SmallTimer (fence ck s now p f lo hi cfg).alt_min.clear)))))
+  fence_small : (s : TriggerState) (now : ℕ) (p : Option Place) (f : Bool) (lo hi : Float) (cfg : Config) → SmallTimer s.fence_breach_set × (SmallTimer s.fence_breach_clear × (SmallTimer s.alt_max_set × (SmallTimer s.alt_max_clear × (SmallTimer s.alt_min_set × (SmallTimer s.alt_min_clear))))) → now < 2 ^ 32 → SmallTimer (fence ck s now p f lo hi cfg).breach.set × (SmallTimer (fence ck s now p f lo hi cfg).breach.clear × (SmallTimer (fence ck s now p f lo hi cfg).alt_max.set × (SmallTimer (fence ck s now p f lo hi cfg).alt_max.clear × (SmallTimer (fence ck s now p f lo hi cfg).alt_min.set × (SmallTimer (fence ck s now p f lo hi cfg).alt_min.clear)))))
   unfolding fence fence_breach altitude_min hold_pair
-  fence_small s now OptionPlace.None f lo hi cfg h n = h
-  fence_small s now (OptionPlace.Some p) f lo hi cfg h n =
+  fence_small s now None f lo hi cfg h n = h
+  fence_small s now (Some p) f lo hi cfg h n =
       let m = alt_max_small s.alt_max_set s.alt_max_clear now p.alt_m hi cfg h.1.1.0 h.1.1.1.0 n in
       (held_small s.fence_breach_set now _ _ h.0 n, (held_small s.fence_breach_clear now _ _ h.1.0 n, (m.0, (m.1, (held_small s.alt_min_set now _ _ h.1.1.1.1.0 n, held_small s.alt_min_clear now _ _ h.1.1.1.1.1 n)))))
 
-  battery_small : (s : TriggerState) (now : ℕ) (p v : OptionF32) (cfg : Config) → SmallTimer s.bat_warn_set × (SmallTimer s.bat_warn_clear × (SmallTimer s.bat_low_set × (SmallTimer s.bat_low_clear × (SmallTimer s.bat_crit_set)))) → now < 2 ^ 32 → SmallTimer (battery ck s now p v cfg).warn.set × (SmallTimer (battery ck s now p v cfg).warn.clear × (SmallTimer (battery ck s now p v cfg).low.set × (SmallTimer (battery ck s now p v cfg).low.clear × (SmallTimer (battery ck s now p v cfg).crit_set))))
+  battery_small : (s : TriggerState) (now : ℕ) (p v : Option Float) (cfg : Config) → SmallTimer s.bat_warn_set × (SmallTimer s.bat_warn_clear × (SmallTimer s.bat_low_set × (SmallTimer s.bat_low_clear × (SmallTimer s.bat_crit_set)))) → now < 2 ^ 32 → SmallTimer (battery ck s now p v cfg).warn.set × (SmallTimer (battery ck s now p v cfg).warn.clear × (SmallTimer (battery ck s now p v cfg).low.set × (SmallTimer (battery ck s now p v cfg).low.clear × (SmallTimer (battery ck s now p v cfg).crit_set))))
   unfolding battery battery_warn battery_low battery_critical hold_pair
-  battery_small s now OptionF32.None v cfg h n = h
-  battery_small s now (OptionF32.Some p) v cfg h n = (held_small s.bat_warn_set now _ _ h.0 n, (held_small s.bat_warn_clear now _ _ h.1.0 n, (held_small s.bat_low_set now _ _ h.1.1.0 n, (held_small s.bat_low_clear now _ _ h.1.1.1.0 n, held_small s.bat_crit_set now _ _ h.1.1.1.1 n))))
+  battery_small s now None v cfg h n = h
+  battery_small s now (Some p) v cfg h n = (held_small s.bat_warn_set now _ _ h.0 n, (held_small s.bat_warn_clear now _ _ h.1.0 n, (held_small s.bat_low_set now _ _ h.1.1.0 n, (held_small s.bat_low_clear now _ _ h.1.1.1.0 n, held_small s.bat_crit_set now _ _ h.1.1.1.1 n))))
 
-  energy_small : (s : TriggerState) (now : ℕ) (m : OptionF32) (cfg : Config) → SmallTimer s.energy_marg_set × (SmallTimer s.energy_marg_clear × (SmallTimer s.energy_infeas_set)) → now < 2 ^ 32 → SmallTimer (energy ck s now m cfg).marginal.set × (SmallTimer (energy ck s now m cfg).marginal.clear × (SmallTimer (energy ck s now m cfg).infeas_set))
+  energy_small : (s : TriggerState) (now : ℕ) (m : Option Float) (cfg : Config) → SmallTimer s.energy_marg_set × (SmallTimer s.energy_marg_clear × (SmallTimer s.energy_infeas_set)) → now < 2 ^ 32 → SmallTimer (energy ck s now m cfg).marginal.set × (SmallTimer (energy ck s now m cfg).marginal.clear × (SmallTimer (energy ck s now m cfg).infeas_set))
   unfolding energy energy_marginal hold_pair
-  energy_small s now OptionF32.None cfg h n = h
-  energy_small s now (OptionF32.Some m) cfg h n = (held_small s.energy_marg_set now _ _ h.0 n, (held_small s.energy_marg_clear now _ _ h.1.0 n, held_small s.energy_infeas_set now _ _ h.1.1 n))
+  energy_small s now None cfg h n = h
+  energy_small s now (Some m) cfg h n = (held_small s.energy_marg_set now _ _ h.0 n, (held_small s.energy_marg_clear now _ _ h.1.0 n, held_small s.energy_infeas_set now _ _ h.1.1 n))
 
-  pub timers_small : (s : TriggerState) (t : Telemetry) (cfg : Config) (lo hi : Float) (p : OptionPlace) (m : OptionF32) (invalid fault : Bool) → Within (timer_cells s) → t.now_ms < 2 ^ 32 → Within (timer_cells (update ck s t cfg lo hi p m invalid fault).triggers)
+  pub timers_small : (s : TriggerState) (t : Telemetry) (cfg : Config) (lo hi : Float) (p : Option Place) (m : Option Float) (invalid fault : Bool) → Within (timer_cells s) → t.now_ms < 2 ^ 32 → Within (timer_cells (update ck s t cfg lo hi p m invalid fault).triggers)
   unfolding update families next_triggers gps ekf hold_pair rc_link
   timers_small s t cfg lo hi p m invalid true h n = h
   timers_small s t cfg lo hi p m invalid false h n =

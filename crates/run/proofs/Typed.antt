@@ -1,4 +1,5 @@
 -- A fresh state is within its types, and a step fed from bytes leaves a state that is. Assumes nothing.
+use Rattle.std.specs.Prelude.{Option, Some, None}
 use Prim.Native.Nat.{ℕ, ◌+◌, ◌<◌, ◌^◌}
 use mathlib.Core.Bool.{Bool, true, false, not, ◌&&◌, cond}
 use mathlib.Core.List.{List}
@@ -8,16 +9,12 @@ use lib.Ieee.Bits.{of_bits-fits}
 use Rattle.types.specs.declared.Action.{Action}
 use Rattle.types.specs.declared.Reason.{Reason}
 use Rattle.types.specs.declared.Request.{Request}
-use Rattle.types.specs.declared.OptionU32.{OptionU32}
 use Rattle.types.specs.declared.PositionSample.{PositionSample}
-use Rattle.types.specs.declared.OptionPositionSample.{OptionPositionSample}
-use Rattle.types.specs.declared.OptionStampedBool.{OptionStampedBool}
-use Rattle.types.specs.declared.OptionStampedLandedState.{OptionStampedLandedState}
 use Rattle.types.specs.Numbers.{rank}
 use Rattle.time.specs.Time.{Clock, age, hold_met}
 use Rattle.validate.specs.declared.GlitchState.{GlitchState}
 use Rattle.validate.specs.declared.Filtered.{Filtered}
-use Rattle.validate.specs.Bounds.{position_ok, keep_position, validate_telemetry}
+use Rattle.validate.specs.Bounds.{position_ok, keep, validate_telemetry}
 use Rattle.validate.specs.Glitch.{accept_stored, next_streak, apply_glitch_filter}
 use Rattle.validate.specs.Fresh.{confirmed_disarm}
 use Rattle.triggers.specs.declared.TriggerState.{TriggerState}
@@ -40,11 +37,13 @@ use Rattle.options.specs.Position.{vec3_at, position_cells, option_position_at}
 use Rattle.frame_state.specs.StateFrame.{timer_cells, Typed}
 use Rattle.frame_telemetry.specs.TelemetryFrame.{telemetry_at}
 use Rattle.run.proofs.Small.{Small, chosen, timers_small}
+use Rattle.types.specs.declared.Stamped.{Stamped}
+use Rattle.types.specs.declared.LandedState.{LandedState}
 
-abbrev Stored : OptionPositionSample → Type 0
+abbrev Stored : Option PositionSample → Type 0
 Stored o = Within (position_cells o)
 
-absent_stored : Stored OptionPositionSample.None
+absent_stored : Stored None
 absent_stored = let z = of_bits-fits binary32 0 in (lit< tt, (z, (z, (z, (z, (z, (z, tt)))))))
 
 pub fresh_typed : Typed fresh_supervisor
@@ -59,31 +58,31 @@ fresh_typed =
       epoch = lit< tt;
     }
 
-kept_stored : (b : Bool) (p : OptionPositionSample) → Stored p → Stored (keep_position b p)
+kept_stored : (b : Bool) (p : Option PositionSample) → Stored p → Stored (keep b p)
 kept_stored true p h = h
 kept_stored false p h = absent_stored
 
 accepted : PositionSample → Filtered
 accepted s =
     record {
-      glitch = record { last_accepted = OptionPositionSample.Some s; reject_streak = 0 };
-      position = OptionPositionSample.Some s;
+      glitch = record { last_accepted = Some s; reject_streak = 0 };
+      position = Some s;
     }
 
 refused : GlitchState → Filtered
 refused g =
     record {
       glitch = record { last_accepted = g.last_accepted; reject_streak = next_streak g.reject_streak };
-      position = OptionPositionSample.None;
+      position = None;
     }
 
 third_stored : (b : Bool) (g : GlitchState) → Stored g.last_accepted → Stored (glitch_after b g).last_accepted
 third_stored true g h = absent_stored
 third_stored false g h = h
 
-start_small : (o : OptionU32) (now : ℕ) → Small o → now < 2 ^ 32 → recovery_start o now < 2 ^ 32
-start_small OptionU32.None now h n = n
-start_small (OptionU32.Some t) now h n = h
+start_small : (o : Option ℕ) (now : ℕ) → Small o → now < 2 ^ 32 → recovery_start o now < 2 ^ 32
+start_small None now h n = n
+start_small (Some t) now h n = h
 
 abbrev Recovering : Arbitrated → Type 0
 Recovering a = Small a.state.recovery_since_ms
@@ -93,9 +92,9 @@ unfolding without_recovery
 third_recovery true a h = lit< tt
 third_recovery false a h = h
 
-hold_small : (o : OptionU32) (now : ℕ) → Small o → now < 2 ^ 32 → hold_start o now < 2 ^ 32
-hold_small OptionU32.None now h n = n
-hold_small (OptionU32.Some t) now h n = h
+hold_small : (o : Option ℕ) (now : ℕ) → Small o → now < 2 ^ 32 → hold_start o now < 2 ^ 32
+hold_small None now h n = n
+hold_small (Some t) now h n = h
 
 third_timers : (b : Bool) (t : TriggerState) → Within (timer_cells t) → Within (timer_cells (triggers_after b t))
 unfolding without_gcs_timer
@@ -106,36 +105,36 @@ third_timers false t h = h
 module _ (ck : Clock) where
   -- ---- the clock
 
-  last_small : (last : OptionU32) (epoch streak : ℕ) (init : Bool) (now : ℕ) → Small last → now < 2 ^ 32 → Small (clock_step ck last epoch streak init now).last_now
+  last_small : (last : Option ℕ) (epoch streak : ℕ) (init : Bool) (now : ℕ) → Small last → now < 2 ^ 32 → Small (clock_step ck last epoch streak init now).last_now
   unfolding clock_step sound_clock clock_fault
   last_small last epoch streak false now h n = n
-  last_small OptionU32.None epoch streak true now h n = n
-  last_small (OptionU32.Some last) epoch streak true now h n = at (age ck now last)
+  last_small None epoch streak true now h n = n
+  last_small (Some last) epoch streak true now h n = at (age ck now last)
     where
-      at : (a : OptionU32) → Small (by_age a last epoch streak now).last_now
-      at OptionU32.None = h
-      at (OptionU32.Some a) = n
+      at : (a : Option ℕ) → Small (by_age a last epoch streak now).last_now
+      at None = h
+      at (Some a) = n
 
-  epoch_small : (last : OptionU32) (epoch streak : ℕ) (init : Bool) (now : ℕ) → epoch < 2 ^ 32 → now < 2 ^ 32 → (clock_step ck last epoch streak init now).epoch_start < 2 ^ 32
+  epoch_small : (last : Option ℕ) (epoch streak : ℕ) (init : Bool) (now : ℕ) → epoch < 2 ^ 32 → now < 2 ^ 32 → (clock_step ck last epoch streak init now).epoch_start < 2 ^ 32
   unfolding clock_step sound_clock clock_fault
   epoch_small last epoch streak false now h n = n
-  epoch_small OptionU32.None epoch streak true now h n = h
-  epoch_small (OptionU32.Some last) epoch streak true now h n = at (age ck now last)
+  epoch_small None epoch streak true now h n = h
+  epoch_small (Some last) epoch streak true now h n = at (age ck now last)
     where
       third : (b : Bool) → cond b now epoch < 2 ^ 32
       third true = n
       third false = h
 
-      at : (a : OptionU32) → (by_age a last epoch streak now).epoch_start < 2 ^ 32
-      at OptionU32.None = third (leb 3 (streak + 1))
-      at (OptionU32.Some a) = h
+      at : (a : Option ℕ) → (by_age a last epoch streak now).epoch_start < 2 ^ 32
+      at None = third (leb 3 (streak + 1))
+      at (Some a) = h
 
   -- ---- the filter
 
-  filter_stored : (g : GlitchState) (now : ℕ) (p : OptionPositionSample) (v : Float) → Stored g.last_accepted → Stored p → Stored (apply_glitch_filter ck g now p v).glitch.last_accepted
+  filter_stored : (g : GlitchState) (now : ℕ) (p : Option PositionSample) (v : Float) → Stored g.last_accepted → Stored p → Stored (apply_glitch_filter ck g now p v).glitch.last_accepted
   unfolding apply_glitch_filter accepted refused
-  filter_stored g now OptionPositionSample.None v hg hp = hg
-  filter_stored g now (OptionPositionSample.Some s) v hg hp =
+  filter_stored g now None v hg hp = hg
+  filter_stored g now (Some s) v hg hp =
       either (λ b. Stored (cond b (accepted s) (refused g)).glitch.last_accepted) hp hg (accept_stored ck g.last_accepted g.reject_streak now s v)
 
   -- ---- the arbiter
@@ -144,23 +143,23 @@ module _ (ck : Clock) where
   unfolding recover
   recover_small s now hold w h n =
       let since = recovery_start s.recovery_since_ms now in
-      chosen Recovering (hold_met ck now since hold) (shown w OptionU32.None) (shown (previous s) (OptionU32.Some since)) (lit< tt) (start_small s.recovery_since_ms now h n)
+      chosen Recovering (hold_met ck now since hold) (shown w None) (shown (previous s) (Some since)) (lit< tt) (start_small s.recovery_since_ms now h n)
 
   persistence_small : (s : ArbiterState) (now hold : ℕ) (w : Request) (f : Bool) → Small s.recovery_since_ms → now < 2 ^ 32 → Small (apply_persistence ck s now hold w f).state.recovery_since_ms
   unfolding apply_persistence
   persistence_small s now hold w true h n = h
   persistence_small s now hold w false h n =
-      chosen Recovering (leb (rank s.prev_output) (rank w.action)) (shown w OptionU32.None) (recover ck s now hold w) (lit< tt) (recover_small s now hold w h n)
+      chosen Recovering (leb (rank s.prev_output) (rank w.action)) (shown w None) (recover ck s now hold w) (lit< tt) (recover_small s now hold w h n)
 
   arbiter_small : (s : ArbiterState) (now hold : ℕ) (w : Request) (v f : Bool) → Small s.recovery_since_ms → now < 2 ^ 32 → Small (arbitrate ck s now hold w v f).state.recovery_since_ms
   unfolding arbitrate apply_feasibility
   arbiter_small s now hold w v f h n =
       let a = apply_persistence ck s now hold w f in
-      chosen Recovering (needs_position a.output.action && not v) (shown (request Reason.PositionInvalid Action.Land) OptionU32.None) a (lit< tt) (persistence_small s now hold w f h n)
+      chosen Recovering (needs_position a.output.action && not v) (shown (request Reason.PositionInvalid Action.Land) None) a (lit< tt) (persistence_small s now hold w f h n)
 
   -- ---- the gate
 
-  gate_small : (g : DisarmGate) (now : ℕ) (a : OptionStampedBool) (l : OptionStampedLandedState) (ms hold : ℕ) (r : Action) (f : Bool) → Small g.hold_since_ms → now < 2 ^ 32 → Small (evaluate ck g now a l ms hold r f).gate.hold_since_ms
+  gate_small : (g : DisarmGate) (now : ℕ) (a : Option (Stamped Bool)) (l : Option (Stamped LandedState)) (ms hold : ℕ) (r : Action) (f : Bool) → Small g.hold_since_ms → now < 2 ^ 32 → Small (evaluate ck g now a l ms hold r f).gate.hold_since_ms
   unfolding evaluate hold_from
   gate_small g now a l ms hold r f h n =
       chosen (λ (e : Evaluated). Small e.gate.hold_since_ms) (gate_open ck now a l ms r && not f)
@@ -218,6 +217,6 @@ pub read_position : (s : List ℕ) → Bytes s → Stored (telemetry_at s).posit
 unfolding telemetry_at option_position_at vec3_at
 read_position s b = at (flag_at s 8)
   where
-    at : (f : Bool) → Stored (cond f (OptionPositionSample.Some (record { t_ms = u32_at s 9; pos = vec3_at s 13; vel = vec3_at s 25 })) OptionPositionSample.None)
+    at : (f : Bool) → Stored (cond f (Some (record { t_ms = u32_at s 9; pos = vec3_at s 13; vel = vec3_at s 25 })) None)
     at true = (u32_lt s 9 b, (f32_fits s 13, (f32_fits s 17, (f32_fits s 21, (f32_fits s 25, (f32_fits s 29, (f32_fits s 33, tt)))))))
     at false = absent_stored

@@ -1,4 +1,5 @@
 -- A fresh state of 64-bit instants is within its types, and a step fed from a kind 9's bytes leaves one that is: by the 32-bit step on marks. Assumes nothing.
+use Rattle.std.specs.Prelude.{Option, Some, None}
 use Prim.Native.Nat.{ℕ, ◌<◌, ◌^◌}
 use native.Mathlib.Omega.{arith}
 use mathlib.Core.Bool.{Bool, true, false, not, ◌&&◌, cond}
@@ -8,8 +9,6 @@ use lib.Dec.{lit<}
 use lib.ListN.{replicate}
 use lib.Ieee.{binary32}
 use lib.Ieee.Bits.{of_bits-fits}
-use Rattle.types.specs.declared.OptionU32.{OptionU32}
-use Rattle.types.specs.declared.OptionPositionSample.{OptionPositionSample}
 use Rattle.types.specs.declared.Telemetry.{Telemetry}
 use Rattle.time.specs.Time.{plain}
 use Rattle.timers.specs.declared.Timer.{Timer}
@@ -38,23 +37,24 @@ use Rattle.frame_wide_trips.specs.Claim.{TypedWide}
 use Rattle.frame_wide_trips.proofs.Resized.{instants_lt}
 use Rattle.run.proofs.Small.{Small, chosen}
 use Rattle.run.proofs.Typed.{step_typed}
+use Rattle.types.specs.declared.PositionSample.{PositionSample}
 
 abbrev Big : ℕ → Type 0
 Big n = n < 2 ^ 64
 
 -- ---- the floats of a position, whatever its stamp
 
-stamped : (n : ℕ) → n < 2 ^ 32 → (p : OptionPositionSample) → Within (position_cells (position_at 0 p)) → Within (position_cells (position_at n p))
-stamped n h OptionPositionSample.None w = w
-stamped n h (OptionPositionSample.Some p) w = (h, w.1)
+stamped : (n : ℕ) → n < 2 ^ 32 → (p : Option PositionSample) → Within (position_cells (position_at 0 p)) → Within (position_cells (position_at n p))
+stamped n h None w = w
+stamped n h (Some p) w = (h, w.1)
 
-unstamped : (n : ℕ) (p : OptionPositionSample) → Within (position_cells p) → Within (position_cells (position_at 0 (position_at n p)))
-unstamped n OptionPositionSample.None w = w
-unstamped n (OptionPositionSample.Some p) w = (lit< tt, w.1)
+unstamped : (n : ℕ) (p : Option PositionSample) → Within (position_cells p) → Within (position_cells (position_at 0 (position_at n p)))
+unstamped n None w = w
+unstamped n (Some p) w = (lit< tt, w.1)
 
-restamped : (n m : ℕ) → m < 2 ^ 32 → (p : OptionPositionSample) → Within (position_cells (position_at 0 (position_at n p))) → Within (position_cells (position_at m (position_at n p)))
-restamped n m h OptionPositionSample.None w = w
-restamped n m h (OptionPositionSample.Some p) w = (h, w.1)
+restamped : (n m : ℕ) → m < 2 ^ 32 → (p : Option PositionSample) → Within (position_cells (position_at 0 (position_at n p))) → Within (position_cells (position_at m (position_at n p)))
+restamped n m h None w = w
+restamped n m h (Some p) w = (h, w.1)
 
 -- ---- marks are of 32 bits
 
@@ -66,13 +66,13 @@ fresh_small : (b : Bool) → fresh_mark b < 2 ^ 32
 fresh_small true = omega arith
 fresh_small false = omega arith
 
-gap_small : (o : OptionU32) → gap_mark o < 2 ^ 32
-gap_small OptionU32.None = omega arith
-gap_small (OptionU32.Some gap) = omega arith
+gap_small : (o : Option ℕ) → gap_mark o < 2 ^ 32
+gap_small None = omega arith
+gap_small (Some gap) = omega arith
 
-small_instead : (n : ℕ) → n < 2 ^ 32 → (o : OptionU32) → Small (instead n o)
-small_instead n h OptionU32.None = lit< tt
-small_instead n h (OptionU32.Some x) = h
+small_instead : (n : ℕ) → n < 2 ^ 32 → (o : Option ℕ) → Small (instead n o)
+small_instead n h None = lit< tt
+small_instead n h (Some x) = h
 
 -- ---- the state on marks is within 32 bits
 
@@ -92,17 +92,17 @@ marked_typed cfg s t h =
 
 -- ---- an instant after the step is one before it, or the reading, or the position's stamp
 
-big_instead : (n : ℕ) → Big n → (o : OptionU32) → Big (own (instead n o))
-big_instead n h OptionU32.None = lit< tt
-big_instead n h (OptionU32.Some x) = h
+big_instead : (n : ℕ) → Big n → (o : Option ℕ) → Big (own (instead n o))
+big_instead n h None = lit< tt
+big_instead n h (Some x) = h
 
-big_onwards : (now : ℕ) → Big now → (o : OptionU32) → Big (own o) → Big (onwards now (own o) o)
-big_onwards now n OptionU32.None h = n
-big_onwards now n (OptionU32.Some x) h = h
+big_onwards : (now : ℕ) → Big now → (o : Option ℕ) → Big (own o) → Big (onwards now (own o) o)
+big_onwards now n None h = n
+big_onwards now n (Some x) h = h
 
-big_stored : (n : ℕ) → Big n → (p : OptionPositionSample) → Big (own (position_stamp (position_at n p)))
-big_stored n h OptionPositionSample.None = lit< tt
-big_stored n h (OptionPositionSample.Some p) = h
+big_stored : (n : ℕ) → Big n → (p : Option PositionSample) → Big (own (position_stamp (position_at n p)))
+big_stored n h None = lit< tt
+big_stored n h (Some p) = h
 
 after_typed : (s : Supervisor) (t : Telemetry) (r : Stepped) → TypedWide s → Big t.now_ms → Big (own (position_stamp t.position)) → Typed r.supervisor → TypedWide (supervisor_at (instants_after (instants_of s) (stamps_of t) s r) r.supervisor)
 unfolding supervisor_at instants_after instants_of stamps_of
@@ -134,7 +134,7 @@ any_floats : (s : List ℕ) (n : ℕ) → Within (position_cells (position_at 0 
 unfolding narrow.telemetry_at option_position_at vec3_at
 any_floats s n = at (flag_at s 8)
   where
-    at : (f : Bool) → Within (position_cells (position_at 0 (position_at n (cond f (OptionPositionSample.Some (record { t_ms = u32_at s 9; pos = vec3_at s 13; vel = vec3_at s 25 })) OptionPositionSample.None))))
+    at : (f : Bool) → Within (position_cells (position_at 0 (position_at n (cond f (Some (record { t_ms = u32_at s 9; pos = vec3_at s 13; vel = vec3_at s 25 })) None))))
     at true = (lit< tt, (f32_fits s 13, (f32_fits s 17, (f32_fits s 21, (f32_fits s 25, (f32_fits s 29, (f32_fits s 33, tt)))))))
     at false = let z = of_bits-fits binary32 0 in (lit< tt, (z, (z, (z, (z, (z, (z, tt)))))))
 

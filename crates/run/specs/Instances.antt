@@ -1,17 +1,9 @@
 -- A run on bytes that meets the premises of the claim, and its record; and calls with several faults. Lists have the latest call first. Assumes nothing.
-use Rattle.std.specs.Prelude.{ℕ, ◌≤◌, Bool, true, false, List, [], ◌∷◌, ◌++◌, ◌≡◌, length, set, take, replicate}
+use Rattle.std.specs.Prelude.{ℕ, ◌≤◌, Bool, true, false, List, [], ◌∷◌, ◌++◌, ◌≡◌, length, set, take, replicate, Some, None}
 use Rattle.std.specs.Float.Ieee.{neg}
 use Rattle.types.specs.declared.Action.{Action}
 use Rattle.types.specs.declared.GpsFix.{GpsFix}
 use Rattle.types.specs.declared.LandedState.{LandedState}
-use Rattle.types.specs.declared.OptionU8.{OptionU8}
-use Rattle.types.specs.declared.OptionU32.{OptionU32}
-use Rattle.types.specs.declared.OptionF32.{OptionF32}
-use Rattle.types.specs.declared.OptionGpsSample.{OptionGpsSample}
-use Rattle.types.specs.declared.OptionPositionSample.{OptionPositionSample}
-use Rattle.types.specs.declared.OptionStampedF32.{OptionStampedF32}
-use Rattle.types.specs.declared.OptionStampedBool.{OptionStampedBool}
-use Rattle.types.specs.declared.OptionStampedLandedState.{OptionStampedLandedState}
 use Rattle.types.specs.declared.Point2.{Point2}
 use Rattle.types.specs.declared.Telemetry.{Telemetry}
 use Rattle.config.specs.Default.{decimal, default_config, default_corners}
@@ -43,24 +35,24 @@ in_flight now link =
     record {
       now_ms = now;
       position =
-          OptionPositionSample.Some
+          Some
           (record {
             t_ms = now;
             pos = record { n = decimal 0 1; e = decimal 0 1; d = neg (decimal 30 1) };
             vel = record { n = decimal 0 1; e = decimal 0 1; d = decimal 0 1 };
           });
-      gps = OptionGpsSample.Some (record { t_ms = now; fix = GpsFix.Fix3D; sats = OptionU8.Some 12; hdop = OptionF32.Some (decimal 1 1) });
+      gps = Some (record { t_ms = now; fix = GpsFix.Fix3D; sats = Some 12; hdop = Some (decimal 1 1) });
       battery =
           record {
-            voltage_v = OptionStampedF32.Some now (decimal 16 1);
-            percent = OptionStampedF32.Some now (decimal 90 1);
-            remaining_wh = OptionStampedF32.None;
+            voltage_v = Some (record { t_ms = now; value = decimal 16 1 });
+            percent = Some (record { t_ms = now; value = decimal 90 1 });
+            remaining_wh = None;
           };
-      gcs_heartbeat_ms = OptionU32.Some now;
-      armed = OptionStampedBool.Some now true;
-      landed = OptionStampedLandedState.Some now LandedState.InAir;
-      rc_ok = OptionStampedBool.Some now link;
-      ekf_ok = OptionStampedBool.Some now true;
+      gcs_heartbeat_ms = Some now;
+      armed = Some (record { t_ms = now; value = true });
+      landed = Some (record { t_ms = now; value = LandedState.InAir });
+      rc_ok = Some (record { t_ms = now; value = link });
+      ekf_ok = Some (record { t_ms = now; value = true });
     }
 
 -- nothing is read but the clock
@@ -68,14 +60,14 @@ unfoldable pub blind : ℕ → Telemetry
 blind now =
     record {
       now_ms = now;
-      position = OptionPositionSample.None;
-      gps = OptionGpsSample.None;
-      battery = record { voltage_v = OptionStampedF32.None; percent = OptionStampedF32.None; remaining_wh = OptionStampedF32.None };
-      gcs_heartbeat_ms = OptionU32.None;
-      armed = OptionStampedBool.None;
-      landed = OptionStampedLandedState.None;
-      rc_ok = OptionStampedBool.None;
-      ekf_ok = OptionStampedBool.None;
+      position = None;
+      gps = None;
+      battery = record { voltage_v = None; percent = None; remaining_wh = None };
+      gcs_heartbeat_ms = None;
+      armed = None;
+      landed = None;
+      rc_ok = None;
+      ekf_ok = None;
     }
 
 abbrev pub step_on : Telemetry → Call

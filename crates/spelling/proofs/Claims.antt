@@ -1,4 +1,5 @@
 -- One spelling, on the bytes of frames: what is written for an accepted fence reads back as its one form, and the claims on rings carry over. Assumes nothing.
+use Rattle.std.specs.Prelude.{Result, Ok, Err, ⊤}
 use Prim.Native.Nat.{ℕ, zero, suc, ◌+◌, ◌*◌, ◌≤◌}
 use mathlib.Core.Path.{◌≡◌, ◌∙◌, ap, refl, sym, subst}
 use mathlib.Core.Bool.{Bool, true, false, not, ◌||◌, cond}
@@ -18,8 +19,8 @@ use Rattle.wire.specs.Cell.{Within}
 use Rattle.wire.specs.Frame.{room_fault, frame_written}
 use Rattle.wire.proofs.Head.{head_says}
 use Rattle.corners.specs.declared.FenceError.{FenceError}
-use Rattle.corners.specs.declared.FenceResult.{FenceResult}
-use Rattle.corners.specs.Acceptance.{result_and, fault_if, polygon_fault}
+use Rattle.std.specs.Result.{result_and}
+use Rattle.corners.specs.Acceptance.{fault_if, polygon_fault}
 use Rattle.corners.proofs.Callers.{too_many}
 use Rattle.geometry.specs.Polygon.{polygon_new, geofence_new}
 use Rattle.rings.specs.Ring.{SameRing, same, turn, back, and_then}
@@ -42,16 +43,16 @@ use Rattle.spelling.specs.Spell.{head_fault, in_form, judged_again, spelled_fenc
 use Rattle.spelling.specs.Claim.{Accepted, Same, form_of, WriteAlike, EqualBytes, RingKept, WrittenStays}
 
 -- ---- small things
-never : (e : FenceError) → FenceResult.Err e ≡ FenceResult.Ok → ⊥
+never : (e : FenceError) → ◌≡◌ {A = Result ⊤ FenceError} (Err e) (Ok tt) → ⊥
 never e h = let z : ◌≡◌ {A = ℕ} 0 1 = cc in omega arith
 
-first_ok : (v w : FenceResult) → result_and v w ≡ FenceResult.Ok → v ≡ FenceResult.Ok
-first_ok FenceResult.Ok w h = refl
-first_ok (FenceResult.Err e) w h = absurd (never e h)
+first_ok : (v w : Result ⊤ FenceError) → result_and v w ≡ Ok tt → v ≡ Ok tt
+first_ok (Ok tt) w h = refl
+first_ok (Err e) w h = absurd (never e h)
 
-second_ok : (v w : FenceResult) → result_and v w ≡ FenceResult.Ok → w ≡ FenceResult.Ok
-second_ok FenceResult.Ok w h = h
-second_ok (FenceResult.Err e) w h = absurd (never e h)
+second_ok : (v w : Result ⊤ FenceError) → result_and v w ≡ Ok tt → w ≡ Ok tt
+second_ok (Ok tt) w h = h
+second_ok (Err e) w h = absurd (never e h)
 
 ring_length : {A : Type 0} {l m : List A} → SameRing l m → length l ≡ length m
 ring_length same = refl
@@ -124,11 +125,11 @@ module _ (s : List ℕ) (a : Accepted s) where
   rules : fence_of (read_fence s) ≡ fence_rules true (u8_at s 4) (f32_at s 5) (f32_at s 9) (corners_sent s)
   rules = rules_of.rules s sound ∙ ap (λ (b : Bool). fence_rules b (u8_at s 4) (f32_at s 5) (f32_at s 9) (corners_sent s)) kind
 
-  both_ok : result_and (polygon_fault true (u8_at s 4) (corners_sent s)) (geofence_new (polygon_new true (u8_at s 4) (corners_sent s)).poly (f32_at s 5) (f32_at s 9)).result ≡ FenceResult.Ok
+  both_ok : result_and (polygon_fault true (u8_at s 4) (corners_sent s)) (geofence_new (polygon_new true (u8_at s 4) (corners_sent s)).poly (f32_at s 5) (f32_at s 9)).result ≡ Ok tt
   unfolding fence_rules polygon_new
   both_ok = rw rules at a.rules
 
-  polygon_ok : polygon_fault true (u8_at s 4) (corners_sent s) ≡ FenceResult.Ok
+  polygon_ok : polygon_fault true (u8_at s 4) (corners_sent s) ≡ Ok tt
   polygon_ok = first_ok (polygon_fault true (u8_at s 4) (corners_sent s)) _ both_ok
 
   pub few : u8_at s 4 ≤ 16
@@ -164,14 +165,14 @@ module _ (s : List ℕ) (a : Accepted s) where
 
 -- what stands beside an accepted frame's rules: both altitudes are finite
 module _ (s : List ℕ) (a : Accepted s) where
-  altitudes_ok : (geofence_new (polygon_new true (u8_at s 4) (corners_sent s)).poly (f32_at s 5) (f32_at s 9)).result ≡ FenceResult.Ok
+  altitudes_ok : (geofence_new (polygon_new true (u8_at s 4) (corners_sent s)).poly (f32_at s 5) (f32_at s 9)).result ≡ Ok tt
   altitudes_ok = second_ok (polygon_fault true (u8_at s 4) (corners_sent s)) _ (both_ok s a)
 
   finite_altitudes : (is_finite (f32_at s 5) ≡ true) × (is_finite (f32_at s 9) ≡ true)
   unfolding geofence_new
   finite_altitudes = by (is_finite (f32_at s 5)) (is_finite (f32_at s 9)) (le (f32_at s 9) (f32_at s 5)) refl refl altitudes_ok
     where
-      by : (x y z : Bool) → is_finite (f32_at s 5) ≡ x → is_finite (f32_at s 9) ≡ y → fault_if (not x || not y || z) FenceError.BadAltitudes ≡ FenceResult.Ok
+      by : (x y z : Bool) → is_finite (f32_at s 5) ≡ x → is_finite (f32_at s 9) ≡ y → fault_if (not x || not y || z) FenceError.BadAltitudes ≡ Ok tt
           → (is_finite (f32_at s 5) ≡ true) × (is_finite (f32_at s 9) ≡ true)
       by true true z p q h = (p, q)
       by true false z p q h = absurd (never _ h)
@@ -260,30 +261,30 @@ ring_kept s c a =
     }
 
 -- ---- what 0 means
-number_ok : (r : FenceResult) → fence_number r ≡ 0 → r ≡ FenceResult.Ok
-number_ok FenceResult.Ok h = refl
-number_ok (FenceResult.Err FenceError.TooFewVertices) h = absurd (omega arith)
-number_ok (FenceResult.Err FenceError.TooManyVertices) h = absurd (omega arith)
-number_ok (FenceResult.Err FenceError.NonFinite) h = absurd (omega arith)
-number_ok (FenceResult.Err FenceError.OutOfEnvelope) h = absurd (omega arith)
-number_ok (FenceResult.Err FenceError.DuplicateVertex) h = absurd (omega arith)
-number_ok (FenceResult.Err FenceError.CollinearEdge) h = absurd (omega arith)
-number_ok (FenceResult.Err FenceError.NotConvex) h = absurd (omega arith)
-number_ok (FenceResult.Err FenceError.AreaTooSmall) h = absurd (omega arith)
-number_ok (FenceResult.Err FenceError.BadAltitudes) h = absurd (omega arith)
-number_ok (FenceResult.Err FenceError.NotOnceRound) h = absurd (omega arith)
+number_ok : (r : Result ⊤ FenceError) → fence_number r ≡ 0 → r ≡ Ok tt
+number_ok (Ok tt) h = refl
+number_ok (Err FenceError.TooFewVertices) h = absurd (omega arith)
+number_ok (Err FenceError.TooManyVertices) h = absurd (omega arith)
+number_ok (Err FenceError.NonFinite) h = absurd (omega arith)
+number_ok (Err FenceError.OutOfEnvelope) h = absurd (omega arith)
+number_ok (Err FenceError.DuplicateVertex) h = absurd (omega arith)
+number_ok (Err FenceError.CollinearEdge) h = absurd (omega arith)
+number_ok (Err FenceError.NotConvex) h = absurd (omega arith)
+number_ok (Err FenceError.AreaTooSmall) h = absurd (omega arith)
+number_ok (Err FenceError.BadAltitudes) h = absurd (omega arith)
+number_ok (Err FenceError.NotOnceRound) h = absurd (omega arith)
 
-declined_not : (t : FenceRead) → (judged_again t).refused ≡ 0 → (fence_of t).result ≡ FenceResult.Ok
+declined_not : (t : FenceRead) → (judged_again t).refused ≡ 0 → (fence_of t).result ≡ Ok tt
 unfolding judged_again refused_fence
 declined_not t h = by (eqb (fence_number (fence_of t).result) 0) refl h
   where
-    by : (x : Bool) → eqb (fence_number (fence_of t).result) 0 ≡ x → (cond x t (refused_fence 39)).refused ≡ 0 → (fence_of t).result ≡ FenceResult.Ok
+    by : (x : Bool) → eqb (fence_number (fence_of t).result) 0 ≡ x → (cond x t (refused_fence 39)).refused ≡ 0 → (fence_of t).result ≡ Ok tt
     by true p k = number_ok _ (eqb-true _ _ p)
     by false p k = absurd (omega arith)
 
 record Spelled (s : List ℕ) : Type 0 where
   sound : Accepted s
-  judged : (fence_of (in_form (read_fence s))).result ≡ FenceResult.Ok
+  judged : (fence_of (in_form (read_fence s))).result ≡ Ok tt
 
 opened : (s : List ℕ) → (spelled_fence s).refused ≡ 0 → Spelled s
 unfolding spelled_fence refused_fence
@@ -320,7 +321,7 @@ form_again s a =
     ∙ (λ j. fence_sent true (u8_at s 4) (plain_again (f32_at s 5) j) (plain_again (f32_at s 9) j) ((ap written (taken s a) ∙ fence_stays l (ringed s a)) j))
     ∙ sym e
 
-still : (t : FenceRead) → (fence_of t).result ≡ FenceResult.Ok → judged_again t ≡ t
+still : (t : FenceRead) → (fence_of t).result ≡ Ok tt → judged_again t ≡ t
 unfolding judged_again
 still t h = rw h
 

@@ -1,8 +1,7 @@
 -- What is claimed of one spelling, on the bytes of frames. Numbers are compared as numbers: −0 is 0. Assumes nothing.
-use Rattle.std.specs.Prelude.{ℕ, ◌+◌, ◌*◌, ◌≡◌, true, List, take}
+use Rattle.std.specs.Prelude.{ℕ, ◌+◌, ◌*◌, ◌≡◌, true, List, take, Ok}
 use Rattle.std.specs.Float.Ieee.{eq}
 use Rattle.wire.specs.Fields.{Bytes, u8_at, f32_at}
-use Rattle.corners.specs.declared.FenceResult.{FenceResult}
 use Rattle.rings.specs.Corner.{SameFence}
 use Rattle.frame_fence.specs.FenceFrame.{corners_sent, read_fence, fence_of}
 use Rattle.spelling.specs.Spell.{head_fault, in_form, frame_of, spell_number, spell_output}
@@ -10,7 +9,7 @@ use Rattle.spelling.specs.Spell.{head_fault, in_form, frame_of, spell_number, sp
 -- "an accepted kind 8 fence"
 pub record Accepted (s : List ℕ) : Type 0 where
   pub head : head_fault s ≡ 0
-  pub rules : (fence_of (read_fence s)).result ≡ FenceResult.Ok
+  pub rules : (fence_of (read_fence s)).result ≡ Ok tt
 
 -- "the same altitudes and ring of corners, in any rotation or direction"
 pub record Same (s t : List ℕ) : Type 0 where

@@ -5,7 +5,7 @@ ghost use Rattle.std.specs.Prelude.{◌≡◌, ◌+◌, ◌*◌};
 ghost use Rattle.frame_fence.specs.FenceFrame.{fence_of};
 ghost use Rattle.spelling.specs.Spell.{head_fault, in_form, judged_again, spelled_fence, spell_number, spell_output};
 
-use corners::FenceResult;
+use corners::FenceError;
 use frame_fence::FenceRead;
 use geometry::{ConvexPolygon, Geofence};
 use types::Point2;
@@ -25,7 +25,7 @@ fn head_fault(s: &[u8]) -> u16
 }
 
 // What the fence rules answer. No polygon is held: a step's own call of `fence_of` stays the only one, which the compiler then draws in.
-fn rules(r: FenceRead) -> FenceResult
+fn rules(r: FenceRead) -> Result<(), FenceError>
     ensures { result ≡ (fence_of r).result }
 {
     let corners = r.corners;

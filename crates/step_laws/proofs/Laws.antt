@@ -1,16 +1,13 @@
 -- The laws of a whole step. Assumes nothing.
+use Rattle.std.specs.Prelude.{Option}
 use Prim.Native.Nat.{ℕ}
 use mathlib.Core.Bool.{Bool, true, false, not, ◌&&◌, cond, false≢true}
 use mathlib.Core.Path.{◌≡◌, refl, ap}
 use lib.Ieee.{Float}
 use Rattle.types.specs.declared.Action.{Action}
 use Rattle.types.specs.declared.Telemetry.{Telemetry}
-use Rattle.types.specs.declared.OptionF32.{OptionF32}
-use Rattle.types.specs.declared.OptionStampedBool.{OptionStampedBool}
-use Rattle.types.specs.declared.OptionStampedLandedState.{OptionStampedLandedState}
 use Rattle.time.specs.Time.{Clock}
 use Rattle.config.specs.declared.Config.{Config}
-use Rattle.triggers.specs.declared.OptionPlace.{OptionPlace}
 use Rattle.triggers.specs.declared.TriggerState.{TriggerState}
 use Rattle.triggers.specs.Update.{fresh_triggers, without_gcs_timer, update}
 use Rattle.arbiter.specs.Arbiter.{fresh_arbiter}
@@ -22,9 +19,12 @@ use Rattle.supervisor.specs.Settings.{Settings, Fed}
 use Rattle.supervisor.specs.Step.{glitch_after, sense, decision_of, disarmed_decision, disarmed, flown, step}
 use Rattle.supervisor.proofs.Kept.{battery_latch_stays, energy_latch_stays}
 use Rattle.step_laws.specs.Laws.{cleared_by_third, clock_at, disarms, rest_from, after, StepClaim}
+use Rattle.types.specs.declared.Stamped.{Stamped}
+use Rattle.types.specs.declared.LandedState.{LandedState}
+use Rattle.triggers.specs.declared.Place.{Place}
 
 -- a fault closes the gate
-closes : (ck : Clock) (g : DisarmGate) (now : ℕ) (armed : OptionStampedBool) (landed : OptionStampedLandedState) (ms hold : ℕ) (asked : Action) (fault : Bool)
+closes : (ck : Clock) (g : DisarmGate) (now : ℕ) (armed : Option (Stamped Bool)) (landed : Option (Stamped LandedState)) (ms hold : ℕ) (asked : Action) (fault : Bool)
     → fault ≡ true → evaluate ck g now armed landed ms hold asked fault ≡ record { gate = closed; eligible = false }
 unfolding evaluate
 closes ck g now armed landed ms hold asked fault e = at (gate_open ck now armed landed ms asked)
@@ -37,7 +37,7 @@ closes ck g now armed landed ms hold asked fault e = at (gate_open ck now armed 
     at false = refl
 
 -- and leaves the triggers' state
-held : (ck : Clock) (x : TriggerState) (t : Telemetry) (cfg : Config) (lo hi : Float) (p : OptionPlace) (m : OptionF32) (i f : Bool) → f ≡ true → (update ck x t cfg lo hi p m i f).triggers ≡ x
+held : (ck : Clock) (x : TriggerState) (t : Telemetry) (cfg : Config) (lo hi : Float) (p : Option Place) (m : Option Float) (i f : Bool) → f ≡ true → (update ck x t cfg lo hi p m i f).triggers ≡ x
 unfolding update
 held ck x t cfg lo hi p m i true e = refl
 held ck x t cfg lo hi p m i false e = absurd (false≢true e)

@@ -1,5 +1,5 @@
 // The work of the program `decide`, on slices: what is written for each frame that it reads, and when it ends.
-#![tactic(auto)]
+#![tactic(auto, using(crate::proofs::Room::put_nothing, crate::proofs::Room::written_nothing), unfolding(crate::specs::Stream::refusal, crate::specs::Stream::begin, crate::specs::Stream::with_config, crate::specs::Stream::answer_config, crate::specs::Stream::answer_fence, crate::specs::Stream::answer_setup, crate::specs::Stream::setup_frame, crate::specs::Stream::reply_setup, crate::specs::Stream::after_areas, crate::specs::Stream::answer_frame, crate::specs::Stream::next_frame, crate::specs::Stream::end_bytes))]
 
 ghost use Rattle.std.specs.Prelude.{◌≡◌, List, ℕ, ◌+◌, ◌≤◌, length, take, drop};
 ghost use Rattle.wire.specs.Frame.{frame_written};
@@ -69,29 +69,26 @@ pub struct FramesAnswer {
     pub put: usize,
 }
 
-// Whether a kind 1 or 2 is due.
-pub fn in_setup(due: Due) -> bool
-    ensures { result ≡ in_setup due }
-{
-    match due {
-        Due::Config => true,
-        Due::Fence => true,
-        Due::Telemetry => false,
-        Due::AfterAreas => false,
-        Due::Nothing => false,
+impl Due {
+    // Whether a kind 1 or 2 is due.
+    pub fn in_setup(self) -> bool
+        ensures { result ≡ in_setup self }
+    {
+        matches!(self, Due::Config | Due::Fence)
     }
-}
 
-// Whether a kind 3 is due, with or without a kind 13 before it.
-pub fn in_flight(due: Due) -> bool
-    ensures { result ≡ in_flight due }
-{
-    match due {
-        Due::Config => false,
-        Due::Fence => false,
-        Due::Telemetry => true,
-        Due::AfterAreas => true,
-        Due::Nothing => false,
+    // Whether a kind 3 is due, with or without a kind 13 before it.
+    pub fn in_flight(self) -> bool
+        ensures { result ≡ in_flight self }
+    {
+        matches!(self, Due::Telemetry | Due::AfterAreas)
+    }
+
+    // Whether the frame is a kind 13 that is taken: before each kind 3 at most one is.
+    fn takes_areas(self, frame: &[u8]) -> bool
+        ensures { result ≡ takes_areas self frame.now }
+    {
+        matches!(self, Due::Telemetry) && wire::u16_at(frame, 2) == 13
     }
 }
 
@@ -126,10 +123,7 @@ fn put_refusal(n: u16, out: &mut [u8]) -> usize
 fn silent(session: Session) -> Answer
     ensures { (out : List ℕ) → result ≡ answered (silent session) out }
 {
-    Answer {
-        session: session,
-        put: 0,
-    }
+    Answer { session, put: 0 }
 }
 
 // A refusal is put, and ends the session.
@@ -144,7 +138,7 @@ fn refusal(n: u16, out: &mut [u8]) -> Answer
         areas: 0,
     };
     Answer {
-        session: session,
+        session,
         put: put_refusal(n, out),
     }
 }
@@ -161,21 +155,16 @@ pub fn begin() -> Session
     }
 }
 
+#[tactic(auto, unfolding(crate::specs::Stream::with_config, flight::specs::Flight::refused_flight))]
 fn with_config(cfg: Config) -> Session
     ensures { result ≡ with_config cfg }
 {
-    let f = flight::refused_flight(0);
-    let fence = f.fence;
-    let lengths = f.lengths;
-    let held = Flight {
-        refused: 0,
-        cfg: cfg,
-        fence: fence,
-        lengths: lengths,
-    };
     Session {
         due: Due::Fence,
-        flight: held,
+        flight: Flight {
+            cfg,
+            ..flight::refused_flight(0)
+        },
         supervisor: Supervisor::fresh(),
         areas: 0,
     }
@@ -191,12 +180,12 @@ fn answer_config(frame: &[u8], out: &mut [u8]) -> Answer
     }
 }
 
-fn flying(f: Flight) -> Session
-    ensures { result ≡ flying f }
+fn flying(flight: Flight) -> Session
+    ensures { result ≡ flying flight }
 {
     Session {
         due: Due::Telemetry,
-        flight: f,
+        flight,
         supervisor: Supervisor::fresh(),
         areas: 0,
     }
@@ -208,32 +197,25 @@ fn answer_fence(cfg: Config, frame: &[u8], out: &mut [u8]) -> Answer
     ensures out_after { out.new ≡ frame_written (answer_fence cfg frame.now).bytes out.old }
 {
     let read = frame_fence::read_fence(frame);
-    let n = read.refused;
-    if n != 0 {
-        return refusal(n, out);
+    if read.refused != 0 {
+        return refusal(read.refused, out);
     }
     let f = flight::accept_flight(cfg, read);
-    let m = f.refused;
-    if m != 0 {
-        return refusal(m, out);
+    if f.refused != 0 {
+        return refusal(f.refused, out);
     }
     silent(flying(f))
 }
 
 // One whole frame of kind 1 or 2. Where neither is due, nothing happens.
-fn answer_setup(session: Session, frame: &[u8], out: &mut [u8]) -> Answer
-    ensures value { result ≡ answered (answer_setup session frame.now) out.old }
-    ensures out_after { out.new ≡ frame_written (answer_setup session frame.now).bytes out.old }
+fn answer_setup(session: &Session, frame: &[u8], out: &mut [u8]) -> Answer
+    ensures value { result ≡ answered (answer_setup session.now frame.now) out.old }
+    ensures out_after { out.new ≡ frame_written (answer_setup session.now frame.now).bytes out.old }
 {
-    let due = session.due;
-    let f = session.flight;
-    let cfg = f.cfg;
-    match due {
+    match session.due {
         Due::Config => answer_config(frame, out),
-        Due::Fence => answer_fence(cfg, frame, out),
-        Due::Telemetry => silent(session),
-        Due::AfterAreas => silent(session),
-        Due::Nothing => silent(session),
+        Due::Fence => answer_fence(session.flight.cfg, frame, out),
+        Due::Telemetry | Due::AfterAreas | Due::Nothing => silent(*session),
     }
 }
 
@@ -242,7 +224,7 @@ fn setup_frame(due: Due, input: &[u8]) -> usize
     ensures value { result ≡ setup_frame due input.now }
     ensures upper_bound { result ≤ length input.now }
 {
-    if in_setup(due) {
+    if due.in_setup() {
         wire::whole_frame(input)
     } else {
         0
@@ -250,23 +232,21 @@ fn setup_frame(due: Due, input: &[u8]) -> usize
 }
 
 // Answers the frame of kind 1 or 2 at the front of the input, where one is due and whole.
-pub fn set_up(session: Session, input: &[u8], out: &mut [u8]) -> SetUp
-    ensures value { result ≡ set_up session input.now out.old }
-    ensures out_after { out.new ≡ frame_written (reply_setup session input.now).bytes out.old }
+pub fn set_up(session: &Session, input: &[u8], out: &mut [u8]) -> SetUp
+    ensures value { result ≡ set_up session.now input.now out.old }
+    ensures out_after { out.new ≡ frame_written (reply_setup session.now input.now).bytes out.old }
 {
-    let due = session.due;
-    let n = setup_frame(due, input);
+    let n = setup_frame(session.due, input);
     if n == 0 {
         return SetUp {
-            session: session,
+            session: *session,
             taken: 0,
             put: 0,
         };
     }
     let a = answer_setup(session, &input[..n], out);
-    let after = a.session;
     SetUp {
-        session: after,
+        session: a.session,
         taken: n,
         put: a.put,
     }
@@ -274,28 +254,31 @@ pub fn set_up(session: Session, input: &[u8], out: &mut [u8]) -> SetUp
 
 // ---- kind 3 frames, and kind 13 frames between them
 
-// One whole frame of kind 3, with the keep-out areas held. The flight is handed in anew each time, so that a loop over frames
-// copies only the supervisor.
-fn step_frame(f: Flight, s: Supervisor, areas: &[u8], frame: &[u8], out: &mut [u8]) -> FrameAnswer
-    ensures value { result ≡ frame_answer (after_telemetry (read_telemetry frame.now) f s areas.now) out.old }
-    ensures out_after { out.new ≡ frame_written (after_telemetry (read_telemetry frame.now) f s areas.now).bytes out.old }
+// One whole frame of kind 3, with the keep-out areas held.
+fn step_frame(
+    flight: &Flight,
+    supervisor: &Supervisor,
+    areas: &[u8],
+    frame: &[u8],
+    out: &mut [u8],
+) -> FrameAnswer
+    ensures value { result ≡ frame_answer (after_telemetry (read_telemetry frame.now) flight.now supervisor.now areas.now) out.old }
+    ensures out_after { out.new ≡ frame_written (after_telemetry (read_telemetry frame.now) flight.now supervisor.now areas.now).bytes out.old }
 {
     match frame_telemetry::read_telemetry(frame) {
         TelemetryRead::Refused(n) => FrameAnswer {
             due: Due::Nothing,
-            supervisor: s,
+            supervisor: *supervisor,
             areas: areas.len(),
             put: put_refusal(n, out),
         },
         TelemetryRead::Frame(t) => {
-            let next = flight::step_flight(f, areas, s, t);
-            let after = next.supervisor;
-            let d = next.decision;
+            let next = flight::step_flight(flight, areas, supervisor, &t);
             FrameAnswer {
                 due: Due::Telemetry,
-                supervisor: after,
+                supervisor: next.supervisor,
                 areas: areas.len(),
-                put: put_decision(d, out),
+                put: put_decision(next.decision, out),
             }
         }
     }
@@ -303,7 +286,7 @@ fn step_frame(f: Flight, s: Supervisor, areas: &[u8], frame: &[u8], out: &mut [u
 
 // One whole frame of kind 13: where it is accepted, it is held in the place of the one before.
 fn hold_areas(
-    s: Supervisor,
+    supervisor: &Supervisor,
     areas: usize,
     frame: &[u8],
     out: &mut [u8],
@@ -311,45 +294,32 @@ fn hold_areas(
 ) -> FrameAnswer
     requires areas_bound { areas ≤ 1045 }
     requires in_bounds { 1045 ≤ length held.old }
-    ensures value { result ≡ frame_answer (after_areas s (take areas held.old) frame.now) out.old }
-    ensures out_after { out.new ≡ frame_written (after_areas s (take areas held.old) frame.now).bytes out.old }
-    ensures held_after { take result.areas held.new ≡ (after_areas s (take areas held.old) frame.now).areas }
+    ensures value { result ≡ frame_answer (after_areas supervisor.now (take areas held.old) frame.now) out.old }
+    ensures out_after { out.new ≡ frame_written (after_areas supervisor.now (take areas held.old) frame.now).bytes out.old }
+    ensures held_after { take result.areas held.new ≡ (after_areas supervisor.now (take areas held.old) frame.now).areas }
 {
     let fault = frame_areas::areas_fault(frame);
     if fault == 0 {
         return FrameAnswer {
             due: Due::AfterAreas,
-            supervisor: s,
+            supervisor: *supervisor,
             areas: slices::copy(frame, held),
             put: 0,
         };
     }
     FrameAnswer {
         due: Due::Nothing,
-        supervisor: s,
-        areas: areas,
+        supervisor: *supervisor,
+        areas,
         put: put_refusal(fault, out),
-    }
-}
-
-// Whether the frame is a kind 13 that is taken: before each kind 3 at most one is.
-fn takes_areas(due: Due, frame: &[u8]) -> bool
-    ensures { result ≡ takes_areas due frame.now }
-{
-    match due {
-        Due::Config => false,
-        Due::Fence => false,
-        Due::Telemetry => wire::u16_at(frame, 2) == 13,
-        Due::AfterAreas => false,
-        Due::Nothing => false,
     }
 }
 
 // One whole frame of kind 3 or 13. The areas held are the first bytes of `held`.
 fn fly_frame(
-    f: Flight,
+    flight: &Flight,
     due: Due,
-    s: Supervisor,
+    supervisor: &Supervisor,
     areas: usize,
     frame: &[u8],
     out: &mut [u8],
@@ -357,14 +327,14 @@ fn fly_frame(
 ) -> FrameAnswer
     requires areas_bound { areas ≤ 1045 }
     requires in_bounds { 1045 ≤ length held.old }
-    ensures value { result ≡ frame_answer (answer_frame f due s (take areas held.old) frame.now) out.old }
-    ensures out_after { out.new ≡ frame_written (answer_frame f due s (take areas held.old) frame.now).bytes out.old }
-    ensures held_after { take result.areas held.new ≡ (answer_frame f due s (take areas held.old) frame.now).areas }
+    ensures value { result ≡ frame_answer (answer_frame flight.now due supervisor.now (take areas held.old) frame.now) out.old }
+    ensures out_after { out.new ≡ frame_written (answer_frame flight.now due supervisor.now (take areas held.old) frame.now).bytes out.old }
+    ensures held_after { take result.areas held.new ≡ (answer_frame flight.now due supervisor.now (take areas held.old) frame.now).areas }
 {
-    if takes_areas(due, frame) {
-        hold_areas(s, areas, frame, out, held)
+    if due.takes_areas(frame) {
+        hold_areas(supervisor, areas, frame, out, held)
     } else {
-        step_frame(f, s, &held[..areas], frame, out)
+        step_frame(flight, supervisor, &held[..areas], frame, out)
     }
 }
 
@@ -374,78 +344,65 @@ fn next_frame(due: Due, input: &[u8], room: usize) -> usize
     ensures value { result ≡ next_frame due input.now room }
     ensures upper_bound { result ≤ length input.now }
 {
-    if in_flight(due) {
-        if room < 95 {
-            0
-        } else {
-            wire::whole_frame(input)
-        }
+    if due.in_flight() && room >= 95 {
+        wire::whole_frame(input)
     } else {
         0
     }
 }
 
 // The same behind the frames that were taken.
-fn next_of(p: FramesAnswer, input: &[u8], out: &[u8]) -> usize
-    requires taken_in_bounds { p.taken ≤ length input.now }
-    requires put_in_bounds { p.put ≤ length out.now }
-    ensures by_index { (held : List ℕ) → result ≡ next_of input.now (length out.now) (progress p out.now held) }
-    ensures result_in_bounds { p.taken + result ≤ length input.now }
+fn next_of(p: &FramesAnswer, input: &[u8], out: &[u8]) -> usize
+    requires taken_in_bounds { p.now.taken ≤ length input.now }
+    requires put_in_bounds { p.now.put ≤ length out.now }
+    ensures by_index { (held : List ℕ) → result ≡ next_of input.now (length out.now) (progress p.now out.now held) }
+    ensures result_in_bounds { p.now.taken + result ≤ length input.now }
 {
-    let due = p.due;
-    let taken = p.taken;
-    let room = out.len() - p.put;
-    next_frame(due, &input[taken..], room)
+    next_frame(p.due, &input[p.taken..], out.len() - p.put)
 }
 
 // Answers the next frame, which has n bytes.
 fn fly_next(
-    f: Flight,
-    p: FramesAnswer,
+    flight: &Flight,
+    p: &FramesAnswer,
     n: usize,
     input: &[u8],
     out: &mut [u8],
     held: &mut [u8],
 ) -> FramesAnswer
-    requires n_in_bounds { p.taken + n ≤ length input.now }
-    requires put_in_bounds { p.put + 95 ≤ length out.old }
-    requires areas_bound { p.areas ≤ 1045 }
+    requires n_in_bounds { p.now.taken + n ≤ length input.now }
+    requires put_in_bounds { p.now.put + 95 ≤ length out.old }
+    requires areas_bound { p.now.areas ≤ 1045 }
     requires in_bounds { 1045 ≤ length held.old }
-    ensures held_after { progress result out.new held.new ≡ answer_next f input.now n (progress p out.old held.old) }
+    ensures held_after { progress result out.new held.new ≡ answer_next flight.now input.now n (progress p.now out.old held.old) }
     ensures out_unchanged { drop result.put out.new ≡ drop result.put out.old }
-    ensures taken_in_bounds { (result.taken ≤ length input.now) × (p.put ≤ result.put) × (result.put ≤ length out.new) × (result.areas ≤ 1045) }
+    ensures taken_in_bounds { (result.taken ≤ length input.now) × (p.now.put ≤ result.put) × (result.put ≤ length out.new) × (result.areas ≤ 1045) }
 {
-    let due = p.due;
-    let s = p.supervisor;
-    let taken = p.taken;
-    let put = p.put;
-    let end = taken + n;
+    let end = p.taken + n;
     let a = fly_frame(
-        f,
-        due,
-        s,
+        flight,
+        p.due,
+        &p.supervisor,
         p.areas,
-        &input[taken..end],
-        &mut out[put..],
+        &input[p.taken..end],
+        &mut out[p.put..],
         held,
     );
-    let next = a.due;
-    let after = a.supervisor;
     FramesAnswer {
-        due: next,
-        supervisor: after,
+        due: a.due,
+        supervisor: a.supervisor,
         areas: a.areas,
         taken: end,
-        put: put + a.put,
+        put: p.put + a.put,
     }
 }
 
 // Answers the frames of kinds 3 and 13 from the front of the input, as long as one is due, whole, and out has room for its answer. The
 // areas held are the first bytes of `held`, which has room for the longest frame of them.
 fn fly_within(
-    f: Flight,
+    flight: &Flight,
     due: Due,
-    s: Supervisor,
+    supervisor: &Supervisor,
     areas: usize,
     input: &[u8],
     out: &mut [u8],
@@ -453,45 +410,45 @@ fn fly_within(
 ) -> FramesAnswer
     requires areas_bound { areas ≤ 1045 }
     requires in_bounds { 1045 ≤ length held.old }
-    ensures value { result ≡ frames_answer (fly_frames f due s (take areas held.old) input.now (length out.old)) }
-    ensures out_after { out.new ≡ frame_written (fly_frames f due s (take areas held.old) input.now (length out.old)).written out.old }
-    ensures held_after { take result.areas held.new ≡ (fly_frames f due s (take areas held.old) input.now (length out.old)).areas }
+    ensures value { result ≡ frames_answer (fly_frames flight.now due supervisor.now (take areas held.old) input.now (length out.old)) }
+    ensures out_after { out.new ≡ frame_written (fly_frames flight.now due supervisor.now (take areas held.old) input.now (length out.old)).written out.old }
+    ensures held_after { take result.areas held.new ≡ (fly_frames flight.now due supervisor.now (take areas held.old) input.now (length out.old)).areas }
     ensures taken_in_bounds { (result.taken ≤ length input.now) × (result.put ≤ length out.old) }
 {
     let mut p = FramesAnswer {
-        due: due,
-        supervisor: s,
-        areas: areas,
+        due,
+        supervisor: *supervisor,
+        areas,
         taken: 0,
         put: 0,
     };
-    let mut n = next_of(p, input, out);
-    let mut turns = input.len();
-    while turns > 0 && n > 0 {
-        p = fly_next(f, p, n, input, out, held);
-        n = next_of(p, input, out);
-        turns -= 1;
+    for _turn in 0..input.len() {
+        let n = next_of(&p, input, out);
+        if n == 0 {
+            return p;
+        }
+        p = fly_next(flight, &p, n, input, out, held);
     }
     p
 }
 
 // The same for any number of bytes of areas: those beyond the slice are none.
 pub fn fly_frames(
-    f: Flight,
+    flight: &Flight,
     due: Due,
-    s: Supervisor,
+    supervisor: &Supervisor,
     areas: usize,
     input: &[u8],
     out: &mut [u8],
     held: &mut [u8; 1045],
 ) -> FramesAnswer
-    ensures value { result ≡ frames_answer (fly_frames f due s (take areas held.old) input.now (length out.old)) }
-    ensures out_after { out.new ≡ frame_written (fly_frames f due s (take areas held.old) input.now (length out.old)).written out.old }
-    ensures held_after { take result.areas held.new ≡ (fly_frames f due s (take areas held.old) input.now (length out.old)).areas }
+    ensures value { result ≡ frames_answer (fly_frames flight.now due supervisor.now (take areas held.old) input.now (length out.old)) }
+    ensures out_after { out.new ≡ frame_written (fly_frames flight.now due supervisor.now (take areas held.old) input.now (length out.old)).written out.old }
+    ensures held_after { take result.areas held.new ≡ (fly_frames flight.now due supervisor.now (take areas held.old) input.now (length out.old)).areas }
     ensures taken_in_bounds { (result.taken ≤ length input.now) × (result.put ≤ length out.old) }
 {
     let n = wire::smaller(areas, 1045);
-    fly_within(f, due, s, n, input, out, held)
+    fly_within(flight, due, supervisor, n, input, out, held)
 }
 
 // ---- the end
@@ -501,10 +458,7 @@ pub fn end_input(due: Due, rest: usize, out: &mut [u8]) -> usize
     ensures value { result ≡ put_count (end_bytes due rest) out.old }
     ensures out_after { out.new ≡ frame_written (end_bytes due rest) out.old }
 {
-    if rest == 0 {
-        return 0;
-    }
-    if in_setup(due) | in_flight(due) {
+    if rest > 0 && (due.in_setup() || due.in_flight()) {
         put_refusal(1, out)
     } else {
         0

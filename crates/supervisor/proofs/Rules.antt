@@ -1,4 +1,5 @@
 -- A fresh state obeys the state frame's rules, and a step from a state that does leaves one that does; what is raised fits the frame likewise. Assumes nothing.
+use Rattle.std.specs.Prelude.{Option, Some, None}
 use Prim.Native.Nat.{ℕ, ◌+◌, ◌≤◌}
 use native.Mathlib.Omega.{arith}
 use mathlib.Core.Bool.{Bool, true, false, cond, ◌&&◌, false≢true}
@@ -7,20 +8,15 @@ use lib.Dec.{leb, ltb, lit≤}
 use lib.Ieee.{Float}
 use borrow.Author.Tests.{leb-false}
 use Rattle.types.specs.declared.Vec3.{Vec3}
-use Rattle.types.specs.declared.OptionU32.{OptionU32}
-use Rattle.types.specs.declared.OptionAction.{OptionAction}
-use Rattle.types.specs.declared.OptionF32.{OptionF32}
 use Rattle.types.specs.declared.PositionSample.{PositionSample}
-use Rattle.types.specs.declared.OptionPositionSample.{OptionPositionSample}
 use Rattle.types.specs.declared.Telemetry.{Telemetry}
 use Rattle.time.specs.Time.{Clock, age}
 use Rattle.config.specs.declared.Config.{Config}
 use Rattle.validate.specs.declared.GlitchState.{GlitchState}
 use Rattle.validate.specs.declared.Filtered.{Filtered}
-use Rattle.validate.specs.Bounds.{within_position, within_velocity, validate_position_sample, position_ok, keep_position, validate_telemetry}
+use Rattle.validate.specs.Bounds.{within_position, within_velocity, validate_position_sample, position_ok, keep, validate_telemetry}
 use Rattle.validate.specs.Glitch.{accept_stored, next_streak, apply_glitch_filter}
 use Rattle.validate.specs.Fresh.{confirmed_disarm}
-use Rattle.triggers.specs.declared.OptionPlace.{OptionPlace}
 use Rattle.timers.specs.declared.Timer.{Timer}
 use Rattle.triggers.specs.declared.Raised.{Raised}
 use Rattle.triggers.specs.declared.TriggerState.{TriggerState}
@@ -32,6 +28,7 @@ use Rattle.supervisor.specs.Settings.{Settings, Fed}
 use Rattle.clock.specs.Clock.{clock_fault, sound_clock, by_age, clock_step}
 use Rattle.supervisor.specs.Step.{fresh_supervisor, triggers_after, arbiter_after, glitch_after, sense, disarmed, flown, step}
 use Rattle.supervisor.specs.Rules.{finite_vec, finite_stored, Rules, RaisedFits}
+use Rattle.triggers.specs.declared.Place.{Place}
 
 -- ---- truth values
 
@@ -61,12 +58,12 @@ and_true true false p q = q
 and_true false b p q = p
 
 -- a sample that is kept is finite
-kept_finite : (p : OptionPositionSample) → finite_stored (keep_position (position_ok p) p) ≡ true
+kept_finite : (p : Option PositionSample) → finite_stored (keep (position_ok p) p) ≡ true
 unfolding validate_position_sample
-kept_finite OptionPositionSample.None = refl
-kept_finite (OptionPositionSample.Some s) = at (validate_position_sample s) refl
+kept_finite None = refl
+kept_finite (Some s) = at (validate_position_sample s) refl
   where
-    at : (b : Bool) → validate_position_sample s ≡ b → finite_stored (cond b (OptionPositionSample.Some s) OptionPositionSample.None) ≡ true
+    at : (b : Bool) → validate_position_sample s ≡ b → finite_stored (cond b (Some s) None) ≡ true
     at false h = refl
     at true h =
         let parts = both (within_position s.pos) (within_velocity s.vel) h in
@@ -75,22 +72,22 @@ kept_finite (OptionPositionSample.Some s) = at (validate_position_sample s) refl
 stored : PositionSample → Filtered
 stored s =
     record {
-      glitch = record { last_accepted = OptionPositionSample.Some s; reject_streak = 0 };
-      position = OptionPositionSample.Some s;
+      glitch = record { last_accepted = Some s; reject_streak = 0 };
+      position = Some s;
     }
 
 refused : GlitchState → Filtered
 refused g =
     record {
       glitch = record { last_accepted = g.last_accepted; reject_streak = next_streak g.reject_streak };
-      position = OptionPositionSample.None;
+      position = None;
     }
 
 -- the filter stores what it is given, or keeps what it had
-filter_finite : (ck : Clock) (g : GlitchState) (now : ℕ) (p : OptionPositionSample) (v : Float) → finite_stored g.last_accepted ≡ true → finite_stored p ≡ true → finite_stored (apply_glitch_filter ck g now p v).glitch.last_accepted ≡ true
+filter_finite : (ck : Clock) (g : GlitchState) (now : ℕ) (p : Option PositionSample) (v : Float) → finite_stored g.last_accepted ≡ true → finite_stored p ≡ true → finite_stored (apply_glitch_filter ck g now p v).glitch.last_accepted ≡ true
 unfolding apply_glitch_filter stored refused
-filter_finite ck g now OptionPositionSample.None v hg hp = hg
-filter_finite ck g now (OptionPositionSample.Some s) v hg hp =
+filter_finite ck g now None v hg hp = hg
+filter_finite ck g now (Some s) v hg hp =
     either (λ b. finite_stored (cond b (stored s) (refused g)).glitch.last_accepted ≡ true) hp hg
     (accept_stored ck g.last_accepted g.reject_streak now s v)
 
@@ -104,15 +101,15 @@ fault_streak last epoch streak now = at (leb 3 (streak + 1)) refl
     at true h = lit≤ tt
     at false h = let g = leb-false 3 (streak + 1) h in omega arith
 
-clock_streak : (ck : Clock) (last : OptionU32) (epoch streak : ℕ) (init : Bool) (now : ℕ) → streak ≤ 2 → (clock_step ck last epoch streak init now).backwards_streak ≤ 2
+clock_streak : (ck : Clock) (last : Option ℕ) (epoch streak : ℕ) (init : Bool) (now : ℕ) → streak ≤ 2 → (clock_step ck last epoch streak init now).backwards_streak ≤ 2
 unfolding clock_step sound_clock
 clock_streak ck last epoch streak false now h = lit≤ tt
-clock_streak ck OptionU32.None epoch streak true now h = h
-clock_streak ck (OptionU32.Some last) epoch streak true now h = at (age ck now last)
+clock_streak ck None epoch streak true now h = h
+clock_streak ck (Some last) epoch streak true now h = at (age ck now last)
   where
-    at : (a : OptionU32) → (by_age a last epoch streak now).backwards_streak ≤ 2
-    at OptionU32.None = fault_streak last epoch streak now
-    at (OptionU32.Some a) = lit≤ tt
+    at : (a : Option ℕ) → (by_age a last epoch streak now).backwards_streak ≤ 2
+    at None = fault_streak last epoch streak now
+    at (Some a) = lit≤ tt
 
 -- ---- the link's stage
 
@@ -120,20 +117,20 @@ stage_clearing : (ck : Clock) (t : Timer) (stage now hold : ℕ) → stage ≤ 3
 unfolding gcs_clearing
 stage_clearing ck t stage now hold h = either (λ b. cond b 0 stage ≤ 3) (lit≤ tt) h (held_set ck t now true hold).met
 
-stage_link : (ck : Clock) (t : Timer) (stage now : ℕ) (hb : OptionU32) (cfg : Config) → stage ≤ 3 → (gcs_link ck t stage now hb cfg).stage ≤ 3
+stage_link : (ck : Clock) (t : Timer) (stage now : ℕ) (hb : Option ℕ) (cfg : Config) → stage ≤ 3 → (gcs_link ck t stage now hb cfg).stage ≤ 3
 unfolding gcs_link gcs_stage
 stage_link ck t stage now hb cfg h =
     let a = gcs_age ck now hb in
     at (ltb cfg.gcs_rtl_ms a) (ltb cfg.gcs_hold_ms a) (ltb cfg.gcs_warn_ms a) (leb a cfg.gcs_clear_ms)
   where
-    at : (p q r s : Bool) → (cond p (gcs_stage t 3) (cond q (gcs_stage t 2) (cond r (gcs_stage t 1) (cond s (gcs_clearing ck t stage now cfg.gcs_clear_hold_ms) (record { clear_timer = cleared; stage = stage; request = OptionAction.None }))))).stage ≤ 3
+    at : (p q r s : Bool) → (cond p (gcs_stage t 3) (cond q (gcs_stage t 2) (cond r (gcs_stage t 1) (cond s (gcs_clearing ck t stage now cfg.gcs_clear_hold_ms) (record { clear_timer = cleared; stage = stage; request = None }))))).stage ≤ 3
     at true q r s = lit≤ tt
     at false true r s = lit≤ tt
     at false false true s = lit≤ tt
     at false false false true = stage_clearing ck t stage now cfg.gcs_clear_hold_ms h
     at false false false false = h
 
-stage_update : (ck : Clock) (s : TriggerState) (t : Telemetry) (cfg : Config) (lo hi : Float) (p : OptionPlace) (m : OptionF32) (i f : Bool) → s.gcs_stage ≤ 3 → (update ck s t cfg lo hi p m i f).triggers.gcs_stage ≤ 3
+stage_update : (ck : Clock) (s : TriggerState) (t : Telemetry) (cfg : Config) (lo hi : Float) (p : Option Place) (m : Option Float) (i f : Bool) → s.gcs_stage ≤ 3 → (update ck s t cfg lo hi p m i f).triggers.gcs_stage ≤ 3
 unfolding update families next_triggers
 stage_update ck s t cfg lo hi p m i true h = h
 stage_update ck s t cfg lo hi p m i false h = stage_link ck s.gcs_clear_timer s.gcs_stage t.now_ms t.gcs_heartbeat_ms cfg h
@@ -195,7 +192,7 @@ unfolding without_gcs_timer
 third_raised true t = refl
 third_raised false t = refl
 
-update_fits : (ck : Clock) (s : TriggerState) (t : Telemetry) (cfg : Config) (lo hi : Float) (p : OptionPlace) (m : OptionF32) (i f : Bool) → kept_raised cfg.keeps_raised s.raised ≡ s.raised → kept_raised cfg.keeps_raised (update ck s t cfg lo hi p m i f).triggers.raised ≡ (update ck s t cfg lo hi p m i f).triggers.raised
+update_fits : (ck : Clock) (s : TriggerState) (t : Telemetry) (cfg : Config) (lo hi : Float) (p : Option Place) (m : Option Float) (i f : Bool) → kept_raised cfg.keeps_raised s.raised ≡ s.raised → kept_raised cfg.keeps_raised (update ck s t cfg lo hi p m i f).triggers.raised ≡ (update ck s t cfg lo hi p m i f).triggers.raised
 unfolding update next_triggers
 update_fits ck s t cfg lo hi p m i true h = h
 update_fits ck s t cfg lo hi p m i false h = kept_fits cfg.keeps_raised _

@@ -1,15 +1,12 @@
 -- One step of the supervisor: what is sensed, then what is shown. Assumes nothing.
 -- `Settings` is what a run keeps, `Fed` what a step is fed (specs/Settings.antt): document 01's step is the one at `base_settings` and a fence's site.
-use Rattle.std.specs.Prelude.{ℕ, Bool, true, false, cond}
+use Rattle.std.specs.Prelude.{ℕ, Bool, true, false, cond, Option, Some, None, Float, Result, Ok}
 use Rattle.float32.specs.Binary32.{zero_f}
 use Rattle.types.specs.declared.Action.{Action}
 use Rattle.types.specs.declared.Reason.{Reason}
 use Rattle.types.specs.declared.Request.{Request}
 use Rattle.types.specs.declared.Point2.{Point2}
 use Rattle.types.specs.declared.Vec3.{Vec3}
-use Rattle.types.specs.declared.OptionU32.{OptionU32}
-use Rattle.types.specs.declared.OptionF32.{OptionF32}
-use Rattle.types.specs.declared.OptionPositionSample.{OptionPositionSample}
 use Rattle.types.specs.declared.Telemetry.{Telemetry}
 use Rattle.types.specs.declared.EnergyEstimate.{EnergyEstimate}
 use Rattle.types.specs.declared.Decision.{Decision}
@@ -24,7 +21,6 @@ use Rattle.validate.specs.declared.GlitchState.{GlitchState}
 use Rattle.validate.specs.Bounds.{validate_telemetry}
 use Rattle.validate.specs.Glitch.{no_glitch, apply_glitch_filter}
 use Rattle.validate.specs.Fresh.{position_valid, confirmed_disarm, fresh_remaining_wh}
-use Rattle.triggers.specs.declared.OptionPlace.{OptionPlace}
 use Rattle.triggers.specs.declared.TriggerState.{TriggerState}
 use Rattle.triggers.specs.Update.{fresh_triggers, without_gcs_timer, update}
 use Rattle.arbiter.specs.declared.ArbiterState.{ArbiterState}
@@ -32,12 +28,15 @@ use Rattle.arbiter.specs.Arbiter.{fresh_arbiter, without_recovery, wanted, arbit
 use Rattle.disarm.specs.declared.DisarmGate.{DisarmGate}
 use Rattle.disarm.specs.Disarm.{closed, evaluate}
 use Rattle.supervisor.specs.declared.Supervisor.{Supervisor}
-use Rattle.supervisor.specs.declared.SupervisorResult.{SupervisorResult}
 use Rattle.clock.specs.declared.ClockStep.{ClockStep}
 use Rattle.supervisor.specs.declared.Sensed.{Sensed}
 use Rattle.supervisor.specs.declared.Stepped.{Stepped}
 use Rattle.supervisor.specs.Settings.{Settings, Site, Fed}
 use Rattle.clock.specs.Clock.{clock_step}
+use Rattle.types.specs.declared.PositionSample.{PositionSample}
+use Rattle.triggers.specs.declared.Place.{Place}
+use Rattle.std.specs.Result.{result_and}
+use Rattle.config.specs.declared.ConfigError.{ConfigError}
 
 -- ---- a new supervisor
 
@@ -48,14 +47,15 @@ fresh_supervisor =
       arbiter = fresh_arbiter;
       disarm = closed;
       glitch = no_glitch;
-      last_now = OptionU32.None;
+      last_now = None;
       epoch_start = 0;
       backwards_streak = 0;
       initialized = false;
     }
 
-unfoldable pub supervisor_new : Config → Geofence → SupervisorResult
-supervisor_new cfg fence = record { result = validate_config cfg fence; supervisor = fresh_supervisor }
+-- a fresh one, where the settings are not refused
+unfoldable pub supervisor_new : Config → Geofence → Result Supervisor ConfigError
+supervisor_new cfg fence = result_and (validate_config cfg fence) (Ok fresh_supervisor)
 
 -- ---- what every third fault in a row clears: "the link timer, recovery start and filter"
 
@@ -75,37 +75,37 @@ origin = record { n = zero_f; e = zero_f; d = zero_f }
 
 module _ (near : Point2 → FenceDistance) where
   -- what is read of a position
-  abbrev pub place_of : OptionPositionSample → OptionPlace
-  place_of OptionPositionSample.None = OptionPlace.None
-  place_of (OptionPositionSample.Some s) =
-      OptionPlace.Some
+  abbrev pub place_of : Option PositionSample → Option Place
+  place_of None = None
+  place_of (Some s) =
+      Some
       (record {
         fence = near (record { n = s.pos.n; e = s.pos.e });
         home_dist_m = horizontal_dist_home s.pos;
         alt_m = alt_m s.pos;
       })
 
-abbrev pub valid_place : Bool → OptionPlace → OptionPlace
-valid_place valid p = cond valid p OptionPlace.None
+abbrev pub valid_place : Bool → Option Place → Option Place
+valid_place valid p = cond valid p None
 
 -- the energy to return from a place; without one, from the origin
-abbrev pub energy_at : Config → OptionPlace → OptionF32 → EnergyEstimate
-energy_at cfg OptionPlace.None remaining = rtl_energy cfg origin remaining
-energy_at cfg (OptionPlace.Some p) remaining = rtl_energy_at cfg p.home_dist_m p.alt_m remaining
+abbrev pub energy_at : Config → Option Place → Option Float → EnergyEstimate
+energy_at cfg None remaining = rtl_energy cfg origin remaining
+energy_at cfg (Some p) remaining = rtl_energy_at cfg p.home_dist_m p.alt_m remaining
 
 -- the triggers have a margin only where there is a place
-abbrev pub margin_at : OptionPlace → OptionF32 → OptionF32
-margin_at OptionPlace.None margin = OptionF32.None
-margin_at (OptionPlace.Some p) margin = margin
+abbrev pub margin_at : Option Place → Option Float → Option Float
+margin_at None margin = None
+margin_at (Some p) margin = margin
 
-abbrev pub dist_of : OptionPlace → OptionF32
-dist_of OptionPlace.None = OptionF32.None
-dist_of (OptionPlace.Some p) = OptionF32.Some p.fence.m
+abbrev pub dist_of : Option Place → Option Float
+dist_of None = None
+dist_of (Some p) = Some p.fence.m
 
 -- document 02, L1: "the side, or 255 where there is no distance"
-abbrev pub side_of : OptionPlace → ℕ
-side_of OptionPlace.None = 255
-side_of (OptionPlace.Some p) = p.fence.side
+abbrev pub side_of : Option Place → ℕ
+side_of None = 255
+side_of (Some p) = p.fence.side
 
 -- filter, valid position, energy, triggers, requests: all that is read off validated telemetry
 unfoldable pub sense : Settings → Site → TriggerState → GlitchState → Telemetry → Bool → Bool → Sensed
@@ -141,8 +141,8 @@ disarmed_decision cfg fault =
       active = empty_set;
       position_valid = false;
       clock_fault = fault;
-      energy = rtl_energy cfg origin OptionF32.None;
-      fence_dist_m = OptionF32.None;
+      energy = rtl_energy cfg origin None;
+      fence_dist_m = None;
       disarm_eligible = false;
     }
 

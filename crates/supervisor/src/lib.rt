@@ -1,5 +1,5 @@
 // The Rust's lib.rs: one step of the supervisor. Configuration and fence come with each call.
-#![tactic(auto)]
+#![tactic(auto, unfolding(crate::specs::Step::fresh_supervisor, crate::specs::Step::supervisor_new, crate::specs::Step::sense, crate::specs::Step::disarmed_decision, crate::specs::Step::disarmed, crate::specs::Step::decision_of, crate::specs::Step::flown, crate::specs::Step::step))]
 
 ghost use Rattle.std.specs.Prelude.{◌≡◌};
 ghost use Rattle.geometry.specs.Distance.{ring_of, nearest_by};
@@ -9,13 +9,13 @@ ghost use Rattle.supervisor.specs.Step.{fresh_supervisor, supervisor_new, place_
 
 use arbiter::ArbiterState;
 use clock::ClockStep;
-use config::{Config, ConfigResult};
+use config::{Config, ConfigError};
 use disarm::DisarmGate;
 use geometry::{ConvexPolygon, Geofence, SideLengths};
-use triggers::{OptionPlace, Place, TriggerState};
+use triggers::{Place, TriggerState};
 use types::{
-    Action, ActiveSet, Decision, EnergyEstimate, OptionF32, OptionPositionSample, OptionU32,
-    Point2, Reason, Request, Telemetry, Vec3,
+    Action, ActiveSet, Decision, EnergyEstimate, Point2, PositionSample, Reason, Request,
+    Telemetry, Vec3,
 };
 use validate::GlitchState;
 
@@ -26,17 +26,10 @@ pub struct Supervisor {
     pub arbiter: ArbiterState,
     pub disarm: DisarmGate,
     pub glitch: GlitchState,
-    pub last_now: OptionU32,
+    pub last_now: Option<u32>,
     pub epoch_start: u32,
     pub backwards_streak: u8,
     pub initialized: bool,
-}
-
-// Result<Supervisor, ConfigError>: the supervisor is fresh, and accepted where the result is Ok.
-#[derive(Clone, Copy)]
-pub struct SupervisorResult {
-    pub result: ConfigResult,
-    pub supervisor: Supervisor,
 }
 
 // A step's answer; beside the Decision the side of the fence that gave its distance, 255 where none did.
@@ -69,6 +62,13 @@ fn glitch_after(third: bool, g: GlitchState) -> GlitchState
 
 // ---- what is sensed
 
+// Home, on the ground.
+const ORIGIN: Vec3 = Vec3 {
+    n: 0.0,
+    e: 0.0,
+    d: 0.0,
+};
+
 // All that a step reads off its telemetry and the triggers' state.
 #[derive(Clone, Copy)]
 pub struct Sensed {
@@ -78,283 +78,225 @@ pub struct Sensed {
     pub requested: Request,
     pub position_valid: bool,
     pub energy: EnergyEstimate,
-    pub fence_dist_m: OptionF32,
+    pub fence_dist_m: Option<f32>,
     pub side: u8,
 }
 
 // What is read of a position: the place, and the energy to return from it.
 #[derive(Clone, Copy)]
 struct Located {
-    place: OptionPlace,
+    place: Option<Place>,
     energy: EnergyEstimate,
 }
 
 // The distance is the clearance: from the fence, and from the keep-out areas. The energy is that of the origin where there is no position.
 fn locate(
-    cfg: Config,
-    pos: OptionPositionSample,
-    remaining_wh: OptionF32,
-    poly: ConvexPolygon,
-    lengths: SideLengths,
+    cfg: &Config,
+    pos: Option<PositionSample>,
+    remaining_wh: Option<f32>,
+    poly: &ConvexPolygon,
+    lengths: &SideLengths,
     areas: &[u8],
 ) -> Located
-    ensures place { result.place ≡ place_of (λ p. clearance_at areas.now (nearest_by (ring_of poly) lengths.m p) p) pos }
-    ensures energy { result.energy ≡ energy_at cfg (place_of (λ p. clearance_at areas.now (nearest_by (ring_of poly) lengths.m p) p) pos) remaining_wh }
+    ensures place { result.place ≡ place_of (λ p. clearance_at areas.now (nearest_by (ring_of poly.now) lengths.now.m p) p) pos }
+    ensures energy { result.energy ≡ energy_at cfg.now (place_of (λ p. clearance_at areas.now (nearest_by (ring_of poly.now) lengths.now.m p) p) pos) remaining_wh }
 {
-    match pos {
-        OptionPositionSample::Some(s) => {
-            let p = s.pos;
-            let pt = Point2 { n: p.n, e: p.e };
-            let fence = geometry::nearest_by(poly, lengths, pt);
-            let d = p.horizontal_dist_home();
-            let place = Place {
-                fence: frame_areas::clearance(areas, fence, pt),
-                home_dist_m: d,
-                alt_m: p.alt_m(),
-            };
-            Located {
-                place: OptionPlace::Some(place),
-                energy: energy::rtl_energy_by(cfg, p, d, remaining_wh),
-            }
-        }
-        OptionPositionSample::None => {
-            let origin = Vec3 {
-                n: 0.0,
-                e: 0.0,
-                d: 0.0,
-            };
-            Located {
-                place: OptionPlace::None,
-                energy: energy::rtl_energy(cfg, origin, remaining_wh),
-            }
-        }
+    let Some(PositionSample { pos: p, .. }) = pos else {
+        return Located {
+            place: None,
+            energy: energy::rtl_energy(*cfg, ORIGIN, remaining_wh),
+        };
+    };
+    let pt = Point2 { n: p.n, e: p.e };
+    let fence = geometry::nearest_by(*poly, *lengths, pt);
+    let d = p.horizontal_dist_home();
+    Located {
+        place: Some(Place {
+            fence: frame_areas::clearance(areas, fence, pt),
+            home_dist_m: d,
+            alt_m: p.alt_m(),
+        }),
+        energy: energy::rtl_energy_by(*cfg, p, d, remaining_wh),
     }
 }
 
-fn valid_place(valid: bool, place: OptionPlace) -> OptionPlace
+fn valid_place(valid: bool, place: Option<Place>) -> Option<Place>
     ensures { result ≡ valid_place valid place }
 {
-    if valid { place } else { OptionPlace::None }
+    if valid { place } else { None }
 }
 
 // The triggers have a margin only where there is a position.
-fn margin_at(place: OptionPlace, margin_wh: OptionF32) -> OptionF32
+fn margin_at(place: Option<Place>, margin_wh: Option<f32>) -> Option<f32>
     ensures { result ≡ margin_at place margin_wh }
 {
-    match place {
-        OptionPlace::Some(_) => margin_wh,
-        OptionPlace::None => OptionF32::None,
-    }
+    place.and(margin_wh)
 }
 
-fn dist_of(place: OptionPlace) -> OptionF32
+fn dist_of(place: Option<Place>) -> Option<f32>
     ensures { result ≡ dist_of place }
 {
-    match place {
-        OptionPlace::Some(p) => OptionF32::Some(p.fence.m),
-        OptionPlace::None => OptionF32::None,
-    }
+    place.map(|p| p.fence.m)
 }
 
-fn side_of(place: OptionPlace) -> u8
+fn side_of(place: Option<Place>) -> u8
     ensures { result ≡ side_of place }
 {
-    match place {
-        OptionPlace::Some(p) => p.fence.side,
-        OptionPlace::None => 255,
-    }
+    place.map_or(255, |p| p.fence.side)
 }
 
 fn sense(
-    triggers: TriggerState,
+    triggers: &TriggerState,
     glitch: GlitchState,
-    t: Telemetry,
+    t: &Telemetry,
     invalid: bool,
-    cfg: Config,
-    fence: Geofence,
-    lengths: SideLengths,
+    cfg: &Config,
+    fence: &Geofence,
+    lengths: &SideLengths,
     areas: &[u8],
     fault: bool,
 ) -> Sensed
-    ensures { result ≡ sense (base_settings cfg) (with_areas areas.now (fence_site_by fence lengths)) triggers glitch t invalid fault }
+    ensures { result ≡ sense (base_settings cfg.now) (with_areas areas.now (fence_site_by fence.now lengths.now)) triggers.now glitch t.now invalid fault }
 {
     let now = t.now_ms;
-    let sample = t.position;
-    let ekf_ok = t.ekf_ok;
-    let battery = t.battery;
-    let poly = fence.poly;
-    let f = validate::apply_glitch_filter(glitch, now, sample, cfg.v_max);
-    let pos = f.position;
-    let kept = f.glitch;
-    let valid = validate::position_valid(now, pos, ekf_ok, cfg.pos_fresh_ms, cfg.status_fresh_ms);
+    let f = validate::apply_glitch_filter(glitch, now, t.position, cfg.v_max);
+    let valid = validate::position_valid(
+        now,
+        f.position,
+        t.ekf_ok,
+        cfg.pos_fresh_ms,
+        cfg.status_fresh_ms,
+    );
     let remaining = validate::fresh_remaining_wh(
         now,
-        battery,
+        t.battery,
         cfg.battery_fresh_ms,
         cfg.usable_capacity_wh,
     );
-    let l = locate(cfg, pos, remaining, poly, lengths, areas);
-    let place = l.place;
-    let estimate = l.energy;
-    let margin_wh = estimate.margin_wh;
-    let margin = margin_at(place, margin_wh);
-    let near = valid_place(valid, place);
+    let l = locate(cfg, f.position, remaining, &fence.poly, lengths, areas);
     let u = triggers.update(
         t,
         cfg,
         fence.min_alt_m,
         fence.max_alt_m,
-        near,
-        margin,
+        valid_place(valid, l.place),
+        margin_at(l.place, l.energy.margin_wh),
         invalid,
         fault,
     );
-    let next = u.triggers;
-    let active = u.active;
-    let requested = active.requested_action();
-    let dist = dist_of(place);
-    let side = side_of(place);
     Sensed {
-        triggers: next,
-        glitch: kept,
-        active: active,
-        requested: requested,
+        triggers: u.triggers,
+        glitch: f.glitch,
+        active: u.active,
+        requested: u.active.requested_action(),
         position_valid: valid,
-        energy: estimate,
-        fence_dist_m: dist,
-        side: side,
+        energy: l.energy,
+        fence_dist_m: dist_of(l.place),
+        side: side_of(l.place),
     }
 }
 
 // ---- the step
 
 // Confirmed disarm answers Nominal, even on a fault.
-fn disarmed_decision(cfg: Config, fault: bool) -> Decision
-    ensures { result ≡ disarmed_decision cfg fault }
+fn disarmed_decision(cfg: &Config, fault: bool) -> Decision
+    ensures { result ≡ disarmed_decision cfg.now fault }
 {
-    let origin = Vec3 {
-        n: 0.0,
-        e: 0.0,
-        d: 0.0,
-    };
-    let estimate = energy::rtl_energy(cfg, origin, OptionF32::None);
-    let active = ActiveSet::new();
     Decision {
         action: Action::Nominal,
         reason: Reason::None,
         requested: Action::Nominal,
-        active: active,
+        active: ActiveSet::new(),
         position_valid: false,
         clock_fault: fault,
-        energy: estimate,
-        fence_dist_m: OptionF32::None,
+        energy: energy::rtl_energy(*cfg, ORIGIN, None),
+        fence_dist_m: None,
         disarm_eligible: false,
     }
 }
 
 // It resets triggers, arbiter and gate, and neither filter nor clock.
-fn disarmed(cfg: Config, clock: ClockStep, glitch: GlitchState) -> Stepped
-    ensures { result ≡ disarmed cfg clock glitch }
+fn disarmed(cfg: &Config, clock: ClockStep, glitch: GlitchState) -> Stepped
+    ensures { result ≡ disarmed cfg.now clock glitch }
 {
-    let last_now = clock.last_now;
-    let s = Supervisor {
-        triggers: TriggerState::default(),
-        arbiter: ArbiterState::default(),
-        disarm: disarm::reset_gate(),
-        glitch: glitch,
-        last_now: last_now,
-        epoch_start: clock.epoch_start,
-        backwards_streak: clock.backwards_streak,
-        initialized: true,
-    };
     Stepped {
-        supervisor: s,
+        supervisor: Supervisor {
+            triggers: TriggerState::default(),
+            arbiter: ArbiterState::default(),
+            disarm: disarm::reset_gate(),
+            glitch,
+            last_now: clock.last_now,
+            epoch_start: clock.epoch_start,
+            backwards_streak: clock.backwards_streak,
+            initialized: true,
+        },
         decision: disarmed_decision(cfg, clock.fault),
         side: 255,
     }
 }
 
-fn decision_of(sensed: Sensed, output: Request, fault: bool, eligible: bool) -> Decision
-    ensures { result ≡ decision_of sensed output fault eligible }
+fn decision_of(sensed: &Sensed, output: Request, fault: bool, eligible: bool) -> Decision
+    ensures { result ≡ decision_of sensed.now output fault eligible }
 {
-    let action = output.action;
-    let reason = output.reason;
-    let request = sensed.requested;
-    let requested = request.action;
-    let active = sensed.active;
-    let estimate = sensed.energy;
-    let dist = sensed.fence_dist_m;
     Decision {
-        action: action,
-        reason: reason,
-        requested: requested,
-        active: active,
+        action: output.action,
+        reason: output.reason,
+        requested: sensed.requested.action,
+        active: sensed.active,
         position_valid: sensed.position_valid,
         clock_fault: fault,
-        energy: estimate,
-        fence_dist_m: dist,
+        energy: sensed.energy,
+        fence_dist_m: sensed.fence_dist_m,
         disarm_eligible: eligible,
     }
 }
 
 // The wanted action goes through the arbiter; the gate goes by the requested one before latches.
 fn flown(
-    sensed: Sensed,
+    sensed: &Sensed,
     arbiter: ArbiterState,
     gate: DisarmGate,
     clock: ClockStep,
-    t: Telemetry,
-    cfg: Config,
+    t: &Telemetry,
+    cfg: &Config,
 ) -> Stepped
-    ensures { result ≡ flown (base_settings cfg) sensed arbiter gate clock t }
+    ensures { result ≡ flown (base_settings cfg.now) sensed.now arbiter gate clock t.now }
 {
-    let now = t.now_ms;
-    let armed = t.armed;
-    let landed = t.landed;
-    let requested = sensed.requested;
-    let action = requested.action;
-    let triggers = sensed.triggers;
-    let glitch = sensed.glitch;
-    let last_now = clock.last_now;
     let wanted = arbiter::output_with_latches(
-        requested,
-        triggers.battery_critical_latched,
-        triggers.energy_infeasible_latched,
+        sensed.requested,
+        sensed.triggers.battery_critical_latched,
+        sensed.triggers.energy_infeasible_latched,
     );
-    let a = arbiter::arbitrate(
+    let next = arbiter::arbitrate(
         arbiter,
-        now,
+        t.now_ms,
         cfg.recovery_hold_ms,
         wanted,
         sensed.position_valid,
         clock.fault,
     );
-    let e = disarm::evaluate_gate(
+    let held = disarm::evaluate_gate(
         gate,
-        now,
-        armed,
-        landed,
+        t.now_ms,
+        t.armed,
+        t.landed,
         cfg.status_fresh_ms,
         cfg.disarm_hold_ms,
-        action,
+        sensed.requested.action,
         clock.fault,
     );
-    let output = a.output;
-    let next = a.state;
-    let held = e.gate;
-    let s = Supervisor {
-        triggers: triggers,
-        arbiter: next,
-        disarm: held,
-        glitch: glitch,
-        last_now: last_now,
-        epoch_start: clock.epoch_start,
-        backwards_streak: clock.backwards_streak,
-        initialized: true,
-    };
     Stepped {
-        supervisor: s,
-        decision: decision_of(sensed, output, clock.fault, e.eligible),
+        supervisor: Supervisor {
+            triggers: sensed.triggers,
+            arbiter: next.state,
+            disarm: held.gate,
+            glitch: sensed.glitch,
+            last_now: clock.last_now,
+            epoch_start: clock.epoch_start,
+            backwards_streak: clock.backwards_streak,
+            initialized: true,
+        },
+        decision: decision_of(sensed, next.output, clock.fault, held.eligible),
         side: sensed.side,
     }
 }
@@ -368,59 +310,50 @@ impl Supervisor {
             arbiter: ArbiterState::default(),
             disarm: disarm::reset_gate(),
             glitch: GlitchState::default(),
-            last_now: OptionU32::None,
+            last_now: None,
             epoch_start: 0,
             backwards_streak: 0,
             initialized: false,
         }
     }
 
-    pub fn new(cfg: Config, fence: Geofence) -> SupervisorResult
-        ensures { result ≡ supervisor_new cfg fence }
+    pub fn new(cfg: &Config, fence: &Geofence) -> Result<Self, ConfigError>
+        ensures { result ≡ supervisor_new cfg.now fence.now }
     {
-        let result = config::validate_config(cfg, fence);
-        SupervisorResult {
-            result: result,
-            supervisor: Supervisor::fresh(),
-        }
+        config::validate_config(*cfg, *fence)?;
+        Ok(Supervisor::fresh())
     }
 
     // One step, with the lengths of the fence's sides given, and the frame of the keep-out areas.
     pub fn step_by(
-        self,
-        cfg: Config,
-        fence: Geofence,
-        lengths: SideLengths,
+        &self,
+        cfg: &Config,
+        fence: &Geofence,
+        lengths: &SideLengths,
         areas: &[u8],
-        raw: Telemetry,
+        raw: &Telemetry,
     ) -> Stepped
-        ensures { result ≡ step (base_settings cfg) self (fed_at (with_areas areas.now (fence_site_by fence lengths)) raw) }
+        ensures { result ≡ step (base_settings cfg.now) self.now (fed_at (with_areas areas.now (fence_site_by fence.now lengths.now)) raw.now) }
     {
-        let last_now = self.last_now;
-        let triggers = self.triggers;
-        let arbiter = self.arbiter;
-        let glitch = self.glitch;
-        let gate = self.disarm;
         let clock = clock::clock_step(
-            last_now,
+            self.last_now,
             self.epoch_start,
             self.backwards_streak,
             self.initialized,
             raw.now_ms,
         );
-        let v = validate::validate_telemetry(raw, cfg.usable_capacity_wh);
+        let v = validate::validate_telemetry(*raw, cfg.usable_capacity_wh);
         let t = v.telemetry;
-        let armed = t.armed;
-        let g = glitch_after(clock.third, glitch);
-        if validate::is_confirmed_disarm(t.now_ms, armed, cfg.status_fresh_ms) {
-            return disarmed(cfg, clock, g);
+        let glitch = glitch_after(clock.third, self.glitch);
+        if validate::is_confirmed_disarm(t.now_ms, t.armed, cfg.status_fresh_ms) {
+            return disarmed(cfg, clock, glitch);
         }
-        let tr = triggers_after(clock.third, triggers);
-        let ar = arbiter_after(clock.third, arbiter);
+        let triggers = triggers_after(clock.third, self.triggers);
+        let arbiter = arbiter_after(clock.third, self.arbiter);
         let sensed = sense(
-            tr,
-            g,
-            t,
+            &triggers,
+            glitch,
+            &t,
             v.invalid_input,
             cfg,
             fence,
@@ -428,16 +361,14 @@ impl Supervisor {
             areas,
             clock.fault,
         );
-        flown(sensed, ar, gate, clock, t, cfg)
+        flown(&sensed, arbiter, self.disarm, clock, &t, cfg)
     }
 
-    // Document 01's step: no area is held.
-    pub fn step(self, cfg: Config, fence: Geofence, raw: Telemetry) -> Stepped
-        ensures { result ≡ step (base_settings cfg) self (fed_at (fence_site fence) raw) }
+    // The step where no area is held.
+    pub fn step(&self, cfg: &Config, fence: &Geofence, raw: &Telemetry) -> Stepped
+        ensures { result ≡ step (base_settings cfg.now) self.now (fed_at (fence_site fence.now) raw.now) }
     {
-        let poly = fence.poly;
-        let lengths = geometry::side_lengths(poly);
-        let none = [0u8; 0];
-        self.step_by(cfg, fence, lengths, &none, raw)
+        let lengths = geometry::side_lengths(fence.poly);
+        self.step_by(cfg, fence, &lengths, &[], raw)
     }
 }

@@ -9,34 +9,24 @@ ghost use Rattle.frame_telemetry.specs.TelemetryFrame.{telemetry_at, telemetry_v
 
 use frame_telemetry::TelemetryRead;
 use types::{
-    BatteryInputs, GpsFix, GpsSample, LandedState, OptionGpsFix, OptionGpsSample,
-    OptionLandedState, OptionPositionSample, OptionStampedBool, OptionStampedF32,
-    OptionStampedLandedState, PositionSample, Telemetry, Vec3,
+    BatteryInputs, GpsFix, GpsSample, LandedState, PositionSample, Stamped, Telemetry, Vec3,
 };
 
 // A byte that is no fix's, which is refused before, is read as None.
 fn fix_at(s: &[u8], at: usize) -> GpsFix
     ensures { result ≡ fix_at s.now at }
 {
-    let o = GpsFix::from_number(wire::u8_at(s, at));
-    match o {
-        OptionGpsFix::Some(f) => f,
-        OptionGpsFix::None => GpsFix::None,
-    }
+    GpsFix::try_from(wire::u8_at(s, at)).unwrap_or(GpsFix::None)
 }
 
 // A byte that is no state's, which is refused before, is read as Undefined.
 fn landed_at(s: &[u8], at: usize) -> LandedState
     ensures { result ≡ landed_at s.now at }
 {
-    let o = LandedState::from_number(wire::u8_at(s, at));
-    match o {
-        OptionLandedState::Some(l) => l,
-        OptionLandedState::None => LandedState::Undefined,
-    }
+    LandedState::try_from(wire::u8_at(s, at)).unwrap_or(LandedState::Undefined)
 }
 
-fn option_gps_at(s: &[u8], at: usize) -> OptionGpsSample
+fn option_gps_at(s: &[u8], at: usize) -> Option<GpsSample>
     requires { at < 65536 }
     ensures { result ≡ option_gps_at s.now at }
 {
@@ -45,60 +35,60 @@ fn option_gps_at(s: &[u8], at: usize) -> OptionGpsSample
         let fix = fix_at(s, at + 5);
         let sats = options::option_u8_at(s, at + 6);
         let hdop = options::option_f32_at(s, at + 8);
-        OptionGpsSample::Some(GpsSample {
+        Some(GpsSample {
             t_ms,
             fix,
             sats,
             hdop,
         })
     } else {
-        OptionGpsSample::None
+        None
     }
 }
 
-fn stamped_f32_at(s: &[u8], at: usize) -> OptionStampedF32
+fn stamped_f32_at(s: &[u8], at: usize) -> Option<Stamped<f32>>
     requires { at < 65536 }
     ensures { result ≡ stamped_f32_at s.now at }
 {
     if wire::flag_at(s, at) {
-        OptionStampedF32::Some {
+        Some(Stamped {
             t_ms: wire::u32_at(s, at + 1),
             value: wire::f32_at(s, at + 5),
-        }
+        })
     } else {
-        OptionStampedF32::None
+        None
     }
 }
 
-fn stamped_bool_at(s: &[u8], at: usize) -> OptionStampedBool
+fn stamped_bool_at(s: &[u8], at: usize) -> Option<Stamped<bool>>
     requires { at < 65536 }
     ensures { result ≡ stamped_bool_at s.now at }
 {
     if wire::flag_at(s, at) {
-        OptionStampedBool::Some {
+        Some(Stamped {
             t_ms: wire::u32_at(s, at + 1),
             value: wire::flag_at(s, at + 5),
-        }
+        })
     } else {
-        OptionStampedBool::None
+        None
     }
 }
 
-fn stamped_landed_at(s: &[u8], at: usize) -> OptionStampedLandedState
+fn stamped_landed_at(s: &[u8], at: usize) -> Option<Stamped<LandedState>>
     requires { at < 65536 }
     ensures { result ≡ stamped_landed_at s.now at }
 {
     if wire::flag_at(s, at) {
-        OptionStampedLandedState::Some {
+        Some(Stamped {
             t_ms: wire::u32_at(s, at + 1),
             value: landed_at(s, at + 5),
-        }
+        })
     } else {
-        OptionStampedLandedState::None
+        None
     }
 }
 
-fn position_at(s: &[u8]) -> OptionPositionSample
+fn position_at(s: &[u8]) -> Option<PositionSample>
     ensures { result ≡ option_position_at s.now 8 }
 {
     if wire::flag_at(s, 8) {
@@ -113,9 +103,9 @@ fn position_at(s: &[u8]) -> OptionPositionSample
             e: wire::f32_at(s, 29),
             d: wire::f32_at(s, 33),
         };
-        OptionPositionSample::Some(PositionSample { t_ms, pos, vel })
+        Some(PositionSample { t_ms, pos, vel })
     } else {
-        OptionPositionSample::None
+        None
     }
 }
 

@@ -1,7 +1,5 @@
 -- Document 01, 'time': ages and freshness on whole numbers modulo 2 ^ 32. Assumes nothing.
-use Rattle.std.specs.Prelude.{ℕ, ◌+◌, ◌-◌, ◌%◌, ◌^◌, Bool, false, cond, nat_le, nat_lt}
-use Rattle.types.specs.declared.OptionU32.{OptionU32}
-use Rattle.types.specs.declared.OptionU32.TheVariants.{None, Some}
+use Rattle.std.specs.Prelude.{ℕ, ◌+◌, ◌-◌, ◌%◌, ◌^◌, Bool, false, cond, nat_le, nat_lt, Option, Some, None}
 
 -- a - b modulo 2 ^ 32
 unfoldable pub wrapping_sub : ℕ → ℕ → ℕ
@@ -13,15 +11,15 @@ pub data Clock : Type 0 where
   plain : Clock
 
 -- the term 'age': "Age is now minus then by wrapping subtraction, absent from 2^31 up."; on the other clock "absent only where the stamp is later than now"
-unfoldable pub age : Clock → ℕ → ℕ → OptionU32
+unfoldable pub age : Clock → ℕ → ℕ → Option ℕ
 age wrapping now then = cond (nat_lt (wrapping_sub now then) (2 ^ 31)) (Some (wrapping_sub now then)) None
 age plain now then = cond (nat_lt now then) None (Some (now - then))
 
-abbrev pub at_most : OptionU32 → ℕ → Bool
+abbrev pub at_most : Option ℕ → ℕ → Bool
 at_most None limit = false
 at_most (Some a) limit = nat_le a limit
 
-abbrev pub at_least : OptionU32 → ℕ → Bool
+abbrev pub at_least : Option ℕ → ℕ → Bool
 at_least None limit = false
 at_least (Some a) limit = nat_le limit a
 

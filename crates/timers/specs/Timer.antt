@@ -1,33 +1,32 @@
 -- Document 01, 'triggers': timers; document 02, L11: what a pair of them raises. Assumes nothing.
-use Rattle.std.specs.Prelude.{ℕ, Bool, true, false, not, ◌&&◌, ◌||◌, cond}
-use Rattle.types.specs.declared.OptionU32.{OptionU32}
+use Rattle.std.specs.Prelude.{ℕ, Bool, true, false, not, ◌&&◌, ◌||◌, cond, Option, Some, None}
 use Rattle.time.specs.Time.{Clock, hold_met}
 use Rattle.timers.specs.declared.Timer.{Timer}
 use Rattle.timers.specs.declared.Held.{Held}
 use Rattle.timers.specs.declared.PairHeld.{PairHeld}
 
 abbrev pub cleared : Timer
-cleared = record { since_ms = OptionU32.None }
+cleared = record { since_ms = None }
 
 -- whether a timer has started
-abbrev pub started : OptionU32 → Bool
-started OptionU32.None = false
-started (OptionU32.Some t) = true
+abbrev pub started : Option ℕ → Bool
+started None = false
+started (Some t) = true
 
 abbrev pub pending : Timer → Bool
 pending t = started t.since_ms
 
 -- a timer's start: now, where it had not started
-abbrev pub since_or : OptionU32 → ℕ → ℕ
-since_or OptionU32.None now = now
-since_or (OptionU32.Some since) now = since
+abbrev pub since_or : Option ℕ → ℕ → ℕ
+since_or None now = now
+since_or (Some since) now = since
 
 -- "A timer starts at the first true step; its hold is met from the limit to under 2^31, and is unmet again beyond." A false step clears it.
 unfoldable pub held_set : Clock → Timer → ℕ → Bool → ℕ → Held
 held_set clock t now false hold = record { timer = cleared; met = false }
 held_set clock t now true hold =
     let since = since_or t.since_ms now in
-    record { timer = record { since_ms = OptionU32.Some since }; met = hold_met clock now since hold }
+    record { timer = record { since_ms = Some since }; met = hold_met clock now since hold }
 
 -- a request with a timer that sets it, while `bad`, and one that clears it, while `good`: the timers after a step, and which of their holds is met
 unfoldable pub hold_pair : Clock → Timer → Timer → ℕ → Bool → ℕ → Bool → ℕ → PairHeld

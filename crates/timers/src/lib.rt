@@ -1,15 +1,13 @@
 // Timers, pairs of them that set and clear a request, and the rule by which a pair raises it.
-#![tactic(auto)]
+#![tactic(auto, unfolding(crate::specs::Timer::held_set, crate::specs::Timer::hold_pair, crate::specs::Timer::raised_by))]
 
 ghost use Rattle.std.specs.Prelude.{◌≡◌};
 ghost use Rattle.time.specs.Time.{wrapping};
-ghost use Rattle.timers.specs.Timer.{cleared, pending, since_or, held_set, hold_pair, rested, raised_by};
-
-use types::OptionU32;
+ghost use Rattle.timers.specs.Timer.{cleared, pending, held_set, hold_pair, rested, raised_by};
 
 #[derive(Clone, Copy)]
 pub struct Timer {
-    pub since_ms: OptionU32,
+    pub since_ms: Option<u32>,
 }
 
 // A timer after a step, and whether its hold is met.
@@ -28,55 +26,35 @@ pub struct PairHeld {
     pub clear_met: bool,
 }
 
-// A timer's start: now, where it had not started.
-fn since_or(o: OptionU32, now: u32) -> u32
-    ensures { result ≡ since_or o now }
-{
-    match o {
-        OptionU32::Some(since) => since,
-        OptionU32::None => now,
-    }
-}
-
 impl Timer {
     pub fn clear() -> Self
         ensures { result ≡ cleared }
     {
-        Self {
-            since_ms: OptionU32::None,
-        }
+        Self { since_ms: None }
     }
 
     pub fn pending(self) -> bool
         ensures { result ≡ pending self }
     {
-        let s = self.since_ms;
-        match s {
-            OptionU32::Some(_) => true,
-            OptionU32::None => false,
-        }
+        self.since_ms.is_some()
     }
 
     // Starts at the first true step, and is cleared by a false one.
     pub fn held_set(self, now: u32, active: bool, hold_ms: u32) -> Held
         ensures { result ≡ held_set wrapping self now active hold_ms }
     {
-        let s = self.since_ms;
-        let since = since_or(s, now);
-        if active {
-            Held {
-                timer: Timer {
-                    since_ms: OptionU32::Some(since),
-                },
-                met: time::hold_met(now, since, hold_ms),
-            }
-        } else {
-            Held {
-                timer: Timer {
-                    since_ms: OptionU32::None,
-                },
+        if !active {
+            return Held {
+                timer: Timer::clear(),
                 met: false,
-            }
+            };
+        }
+        let since = self.since_ms.unwrap_or(now);
+        Held {
+            timer: Timer {
+                since_ms: Some(since),
+            },
+            met: time::hold_met(now, since, hold_ms),
         }
     }
 }
@@ -94,11 +72,9 @@ pub fn hold_pair(
 {
     let s = set.held_set(now, bad, set_ms);
     let c = clear.held_set(now, good, clear_ms);
-    let st = s.timer;
-    let ct = c.timer;
     PairHeld {
-        set: st,
-        clear: ct,
+        set: s.timer,
+        clear: c.timer,
         set_met: s.met,
         clear_met: c.met,
     }
@@ -109,8 +85,8 @@ pub fn rested(set: Timer, clear: Timer) -> PairHeld
     ensures { result ≡ rested set clear }
 {
     PairHeld {
-        set: set,
-        clear: clear,
+        set,
+        clear,
         set_met: false,
         clear_met: false,
     }

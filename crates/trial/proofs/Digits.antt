@@ -1,7 +1,7 @@
 -- Digits, one after the other. Assumes nothing.
+use Rattle.std.specs.Prelude.{Some, None}
 use Rattle.std.proofs.Common.{◌≡◌, ℕ, suc, ◌<◌, List, [], ◌∷◌, length, get_or, drop, refl, ap, ◌∙◌, drop-cons}
 use lib.Seq.{drop-length}
-use Rattle.types.specs.declared.OptionU32.TheVariants.{None, Some}
 use Rattle.trial.specs.Decimal.{with_digit, digits_from}
 
 -- what is no number stays none

@@ -1,4 +1,5 @@
--- Document 02, L6: the generator, and what a field makes of its draw. Assumes nothing.
+-- The generator, and what a field makes of its draw. Assumes nothing.
+use Rattle.std.specs.Result.{result_unwrap_or}
 use Rattle.std.specs.Prelude.{ℕ, zero, suc, ◌+◌, ◌-◌, ◌*◌, ◌/◌, ◌%◌, ◌^◌, ◌<◌, Bool, cond, List, [], ◌∷◌, ◌++◌, pos, ◌==◌, from_bits, nat_lt, Float}
 use Rattle.std.specs.Float.{binary32}
 use Rattle.std.specs.Float.Ieee.{of_int}
@@ -7,7 +8,6 @@ use Rattle.float32.specs.Binary32.{sub_f, div_f}
 use Rattle.types.specs.declared.GpsFix.{GpsFix}
 use Rattle.types.specs.declared.LandedState.{LandedState}
 use Rattle.types.specs.Numbers.{fix_of_number, landed_of_number}
-use Rattle.frame_telemetry.specs.Readings.{fix_or_none, landed_or_undefined}
 
 -- "becoming x × 1,664,525 + 1,013,904,223 modulo 2^32"
 unfoldable pub next : ℕ → ℕ
@@ -36,10 +36,10 @@ unfoldable pub case_of : ℕ → ℕ → ℕ
 case_of cases draw = draw / 65536 % cases
 
 unfoldable pub fix_of : ℕ → GpsFix
-fix_of draw = fix_or_none (fix_of_number (case_of 3 draw))
+fix_of draw = result_unwrap_or (fix_of_number (case_of 3 draw)) GpsFix.None
 
 unfoldable pub landed_of : ℕ → LandedState
-landed_of draw = landed_or_undefined (landed_of_number (case_of 5 draw))
+landed_of draw = result_unwrap_or (landed_of_number (case_of 5 draw)) LandedState.Undefined
 
 -- "The satellite byte is draw div 2^24."
 unfoldable pub byte_of : ℕ → ℕ

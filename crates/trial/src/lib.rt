@@ -1,18 +1,16 @@
-// Document 02, L6: a test load that everyone can make. Telemetry frames from a seed, one a call.
-#![tactic(auto)]
+// A test load that everyone can make: telemetry frames from a seed, one a call.
+#![tactic(auto, unfolding(crate::specs::Draws::next, crate::specs::Draws::stamp_of, crate::specs::Draws::flag_of, crate::specs::Draws::case_of, crate::specs::Draws::fix_of, crate::specs::Draws::landed_of, crate::specs::Draws::byte_of, crate::specs::Draws::float_of, crate::specs::Trial::vec3_of, crate::specs::Trial::position_of, crate::specs::Trial::sats_of, crate::specs::Trial::hdop_of, crate::specs::Trial::gps_of, crate::specs::Trial::stamped_f32_of, crate::specs::Trial::battery_of, crate::specs::Trial::heartbeat_of, crate::specs::Trial::stamped_bool_of, crate::specs::Trial::stamped_landed_of, crate::specs::Trial::telemetry_of, crate::specs::Trial::now_of, crate::specs::Trial::fields_from, crate::specs::Trial::next_frame, crate::specs::Call::generator_at, crate::specs::Call::generator_fault, crate::specs::Call::room_for, crate::specs::Decimal::with_digit, crate::specs::Decimal::read_decimal))]
 
 ghost use Rattle.std.specs.Prelude.{◌≡◌, ◌+◌, ◌*◌, ◌≤◌, ◌++◌, length, take, drop};
 ghost use Rattle.std.proofs.lemmas.List.Edits.{sets};
 ghost use Rattle.trial.specs.Draws.{next, draws_of, stamp_of, flag_of, fix_of, landed_of, byte_of, float_of};
-ghost use Rattle.trial.specs.Trial.{vec3_of, position_of, sats_of, hdop_of, gps_of, stamped_f32_of, battery_of, heartbeat_of, stamped_bool_of, stamped_landed_of, telemetry_of, now_of, fields_from, next_frame};
+ghost use Rattle.trial.specs.Trial.{stamped_of, vec3_of, position_of, sats_of, hdop_of, gps_of, stamped_f32_of, battery_of, heartbeat_of, stamped_bool_of, stamped_landed_of, telemetry_of, now_of, fields_from, next_frame};
 ghost use Rattle.trial.specs.Call.{generator_at, generator_bytes, generator_fault, trial_call, first_of, onward, frames_of, room_for};
 ghost use Rattle.trial.specs.Decimal.{with_digit, read_decimal};
 ghost use Rattle.frame_telemetry.specs.TelemetryFrame.{telemetry_frame};
 
 use types::{
-    BatteryInputs, GpsFix, GpsSample, LandedState, OptionF32, OptionGpsFix, OptionGpsSample,
-    OptionLandedState, OptionPositionSample, OptionStampedBool, OptionStampedF32,
-    OptionStampedLandedState, OptionU8, OptionU32, PositionSample, Telemetry, Vec3,
+    BatteryInputs, GpsFix, GpsSample, LandedState, PositionSample, Stamped, Telemetry, Vec3,
 };
 
 // `begun`: whether a frame was made.
@@ -35,21 +33,18 @@ pub struct NextFrame {
 pub fn next(x: u32) -> u32
     ensures { result ≡ next x }
 {
-    let y = (x as u64) * 1664525 + 1013904223;
-    (y % 4294967296) as u32
+    ((u64::from(x) * 1664525 + 1013904223) % 4294967296) as u32
 }
 
 // The draws of a frame's fields but now_ms.
 fn draws(x: u32) -> [u32; 38]
     ensures { result ≡ draws_of 38 x }
 {
-    let mut d = [0u32; 38];
+    let mut d = [0; 38];
     let mut y = x;
-    let mut i: usize = 0;
-    while i < 38 {
+    for i in 0..38 {
         y = next(y);
         d[i] = y;
-        i += 1;
     }
     d
 }
@@ -57,7 +52,7 @@ fn draws(x: u32) -> [u32; 38]
 fn stamp_of(now_ms: u32, draw: u32) -> u32
     ensures { result ≡ stamp_of now_ms draw }
 {
-    std::num::wrapping_sub_u32(now_ms, draw / 1048576)
+    now_ms.wrapping_sub(draw / 1048576)
 }
 
 fn flag_of(draw: u32) -> bool
@@ -69,21 +64,13 @@ fn flag_of(draw: u32) -> bool
 fn fix_of(draw: u32) -> GpsFix
     ensures { result ≡ fix_of draw }
 {
-    let o = GpsFix::from_number((draw / 65536 % 3) as u8);
-    match o {
-        OptionGpsFix::Some(f) => f,
-        OptionGpsFix::None => GpsFix::None,
-    }
+    GpsFix::try_from((draw / 65536 % 3) as u8).unwrap_or(GpsFix::None)
 }
 
 fn landed_of(draw: u32) -> LandedState
     ensures { result ≡ landed_of draw }
 {
-    let o = LandedState::from_number((draw / 65536 % 5) as u8);
-    match o {
-        OptionLandedState::Some(l) => l,
-        OptionLandedState::None => LandedState::Undefined,
-    }
+    LandedState::try_from((draw / 65536 % 5) as u8).unwrap_or(LandedState::Undefined)
 }
 
 fn byte_of(draw: u32) -> u8
@@ -95,7 +82,7 @@ fn byte_of(draw: u32) -> u8
 fn float_of(draw: u32) -> f32
     ensures { result ≡ float_of draw }
 {
-    (std::num::nearest_u32_to_f32(draw / 65536) - 32768.0) / 8.0
+    ((draw / 65536) as f32 - 32768.0) / 8.0
 }
 
 // ---- readings, from the draws by the number of their fields
@@ -111,140 +98,98 @@ fn vec3_of(d: &[u32; 38], at: usize) -> Vec3
     }
 }
 
-fn position_of(now_ms: u32, d: &[u32; 38]) -> OptionPositionSample
+fn position_of(now_ms: u32, d: &[u32; 38]) -> Option<PositionSample>
     ensures { result ≡ position_of now_ms d.now }
 {
-    if flag_of(d[0]) {
-        let t_ms = stamp_of(now_ms, d[1]);
-        let pos = vec3_of(d, 2);
-        let vel = vec3_of(d, 5);
-        OptionPositionSample::Some(PositionSample { t_ms, pos, vel })
-    } else {
-        OptionPositionSample::None
-    }
+    let sample = PositionSample {
+        t_ms: stamp_of(now_ms, d[1]),
+        pos: vec3_of(d, 2),
+        vel: vec3_of(d, 5),
+    };
+    flag_of(d[0]).then_some(sample)
 }
 
-fn sats_of(d: &[u32; 38]) -> OptionU8
+fn sats_of(d: &[u32; 38]) -> Option<u8>
     ensures { result ≡ sats_of d.now }
 {
-    if flag_of(d[11]) {
-        OptionU8::Some(byte_of(d[12]))
-    } else {
-        OptionU8::None
-    }
+    flag_of(d[11]).then_some(byte_of(d[12]))
 }
 
-fn hdop_of(d: &[u32; 38]) -> OptionF32
+fn hdop_of(d: &[u32; 38]) -> Option<f32>
     ensures { result ≡ hdop_of d.now }
 {
-    if flag_of(d[13]) {
-        OptionF32::Some(float_of(d[14]))
-    } else {
-        OptionF32::None
-    }
+    flag_of(d[13]).then_some(float_of(d[14]))
 }
 
-fn gps_of(now_ms: u32, d: &[u32; 38]) -> OptionGpsSample
+fn gps_of(now_ms: u32, d: &[u32; 38]) -> Option<GpsSample>
     ensures { result ≡ gps_of now_ms d.now }
 {
-    if flag_of(d[8]) {
-        let t_ms = stamp_of(now_ms, d[9]);
-        let fix = fix_of(d[10]);
-        let sats = sats_of(d);
-        let hdop = hdop_of(d);
-        OptionGpsSample::Some(GpsSample {
-            t_ms,
-            fix,
-            sats,
-            hdop,
-        })
-    } else {
-        OptionGpsSample::None
-    }
+    let sample = GpsSample {
+        t_ms: stamp_of(now_ms, d[9]),
+        fix: fix_of(d[10]),
+        sats: sats_of(d),
+        hdop: hdop_of(d),
+    };
+    flag_of(d[8]).then_some(sample)
 }
 
-fn stamped_f32_of(now_ms: u32, d: &[u32; 38], at: usize) -> OptionStampedF32
+// A reading of one value, from the draws of its flag and of its stamp.
+fn stamped_of<T: Copy>(now_ms: u32, flag: u32, stamp: u32, value: T) -> Option<Stamped<T>>
+    ensures { result ≡ stamped_of now_ms flag stamp value }
+{
+    let t_ms = stamp_of(now_ms, stamp);
+    flag_of(flag).then_some(Stamped { t_ms, value })
+}
+
+fn stamped_f32_of(now_ms: u32, d: &[u32; 38], at: usize) -> Option<Stamped<f32>>
     requires { at + 3 ≤ 38 }
     ensures { result ≡ stamped_f32_of now_ms d.now at }
 {
-    if flag_of(d[at]) {
-        let t_ms = stamp_of(now_ms, d[at + 1]);
-        let value = float_of(d[at + 2]);
-        OptionStampedF32::Some { t_ms, value }
-    } else {
-        OptionStampedF32::None
-    }
+    stamped_of(now_ms, d[at], d[at + 1], float_of(d[at + 2]))
 }
 
 fn battery_of(now_ms: u32, d: &[u32; 38]) -> BatteryInputs
     ensures { result ≡ battery_of now_ms d.now }
 {
-    let voltage_v = stamped_f32_of(now_ms, d, 15);
-    let percent = stamped_f32_of(now_ms, d, 18);
-    let remaining_wh = stamped_f32_of(now_ms, d, 21);
     BatteryInputs {
-        voltage_v,
-        percent,
-        remaining_wh,
+        voltage_v: stamped_f32_of(now_ms, d, 15),
+        percent: stamped_f32_of(now_ms, d, 18),
+        remaining_wh: stamped_f32_of(now_ms, d, 21),
     }
 }
 
-fn heartbeat_of(now_ms: u32, d: &[u32; 38]) -> OptionU32
+fn heartbeat_of(now_ms: u32, d: &[u32; 38]) -> Option<u32>
     ensures { result ≡ heartbeat_of now_ms d.now }
 {
-    if flag_of(d[24]) {
-        OptionU32::Some(stamp_of(now_ms, d[25]))
-    } else {
-        OptionU32::None
-    }
+    flag_of(d[24]).then_some(stamp_of(now_ms, d[25]))
 }
 
-fn stamped_bool_of(now_ms: u32, d: &[u32; 38], at: usize) -> OptionStampedBool
+fn stamped_bool_of(now_ms: u32, d: &[u32; 38], at: usize) -> Option<Stamped<bool>>
     requires { at + 3 ≤ 38 }
     ensures { result ≡ stamped_bool_of now_ms d.now at }
 {
-    if flag_of(d[at]) {
-        let t_ms = stamp_of(now_ms, d[at + 1]);
-        let value = flag_of(d[at + 2]);
-        OptionStampedBool::Some { t_ms, value }
-    } else {
-        OptionStampedBool::None
-    }
+    stamped_of(now_ms, d[at], d[at + 1], flag_of(d[at + 2]))
 }
 
-fn stamped_landed_of(now_ms: u32, d: &[u32; 38]) -> OptionStampedLandedState
+fn stamped_landed_of(now_ms: u32, d: &[u32; 38]) -> Option<Stamped<LandedState>>
     ensures { result ≡ stamped_landed_of now_ms d.now }
 {
-    if flag_of(d[29]) {
-        let t_ms = stamp_of(now_ms, d[30]);
-        let value = landed_of(d[31]);
-        OptionStampedLandedState::Some { t_ms, value }
-    } else {
-        OptionStampedLandedState::None
-    }
+    stamped_of(now_ms, d[29], d[30], landed_of(d[31]))
 }
 
 fn telemetry_of(now_ms: u32, d: &[u32; 38]) -> Telemetry
     ensures { result ≡ telemetry_of now_ms d.now }
 {
-    let position = position_of(now_ms, d);
-    let gps = gps_of(now_ms, d);
-    let battery = battery_of(now_ms, d);
-    let gcs_heartbeat_ms = heartbeat_of(now_ms, d);
-    let armed = stamped_bool_of(now_ms, d, 26);
-    let landed = stamped_landed_of(now_ms, d);
-    let rc_ok = stamped_bool_of(now_ms, d, 32);
-    let ekf_ok = stamped_bool_of(now_ms, d, 35);
     Telemetry {
         now_ms,
-        position,
-        gps,
-        battery,
-        gcs_heartbeat_ms,
-        armed,
-        landed,
-        rc_ok,
-        ekf_ok,
+        position: position_of(now_ms, d),
+        gps: gps_of(now_ms, d),
+        battery: battery_of(now_ms, d),
+        gcs_heartbeat_ms: heartbeat_of(now_ms, d),
+        armed: stamped_bool_of(now_ms, d, 26),
+        landed: stamped_landed_of(now_ms, d),
+        rc_ok: stamped_bool_of(now_ms, d, 32),
+        ekf_ok: stamped_bool_of(now_ms, d, 35),
     }
 }
 
@@ -254,7 +199,7 @@ fn now_of(g: Generator) -> u32
     ensures { result ≡ now_of g }
 {
     if g.begun {
-        std::num::wrapping_add_u32(g.now_ms, next(g.x) / 4194304)
+        g.now_ms.wrapping_add(next(g.x) / 4194304)
     } else {
         0
     }
@@ -272,12 +217,11 @@ pub fn next_frame(g: Generator) -> NextFrame
 {
     let now_ms = now_of(g);
     let d = draws(fields_from(g));
-    let telemetry = telemetry_of(now_ms, &d);
     NextFrame {
-        telemetry,
+        telemetry: telemetry_of(now_ms, &d),
         generator: Generator {
             x: d[37],
-            now_ms: now_ms,
+            now_ms,
             begun: true,
         },
     }
@@ -327,11 +271,9 @@ pub fn trial(generator: &mut [u8], output: &mut [u8]) -> u32
     if output.len() < 106 {
         return 5;
     }
-    let t = next_frame(generator_at(generator));
-    let g = t.generator;
-    let telemetry = t.telemetry;
-    put_generator(generator, g);
-    frame_telemetry::write_telemetry(output, telemetry);
+    let next = next_frame(generator_at(generator));
+    put_generator(generator, next.generator);
+    frame_telemetry::write_telemetry(output, next.telemetry);
     0
 }
 
@@ -353,11 +295,9 @@ fn put_next(g: Generator, block: &mut [u8], at: usize) -> Generator
     ensures value { result ≡ (next_frame g).generator }
     ensures block_after { block.new ≡ take at block.old ++ (telemetry_frame (next_frame g).telemetry ++ drop (at + 106) block.old) }
 {
-    let f = next_frame(g);
-    let telemetry = f.telemetry;
-    let after = f.generator;
-    frame_telemetry::write_telemetry(&mut block[at..], telemetry);
-    after
+    let next = next_frame(g);
+    frame_telemetry::write_telemetry(&mut block[at..], next.telemetry);
+    next.generator
 }
 
 // `count` frames from the start of the block on, or as many as it has room for, and the generator after them.
@@ -365,50 +305,35 @@ pub fn fill(g: Generator, count: usize, block: &mut [u8]) -> Generator
     ensures value { result ≡ onward (room_for count block.old) g }
     ensures block_after { block.new ≡ frames_of (room_for count block.old) g ++ drop (106 * room_for count block.old) block.old }
 {
-    let n = wire::smaller(count, block.len() / 106);
-    let mut h = g;
-    let mut i: usize = 0;
-    while i < n {
-        h = put_next(h, block, 106 * i);
-        i += 1;
+    let n = count.min(block.len() / 106);
+    let mut after = g;
+    for i in 0..n {
+        after = put_next(after, block, 106 * i);
     }
-    h
+    after
 }
 
 // ---- arguments of the program `trials`
 
-fn with_digit(n: u32, c: u8) -> OptionU32
+fn with_digit(n: u32, c: u8) -> Option<u32>
     ensures { result ≡ with_digit n c }
 {
-    if c < 48 {
-        return OptionU32::None;
+    if !c.is_ascii_digit() {
+        return None;
     }
-    if c > 57 {
-        return OptionU32::None;
-    }
-    let m = (n as u64) * 10 + ((c - 48) as u64);
-    if m < 4294967296 {
-        OptionU32::Some(m as u32)
-    } else {
-        OptionU32::None
-    }
+    n.checked_mul(10)?.checked_add(u32::from(c - b'0'))
 }
 
 // A decimal number below 2^32, of digits alone.
-pub fn read_decimal(s: &[u8]) -> OptionU32
+pub fn read_decimal(s: &[u8]) -> Option<u32>
     ensures { result ≡ read_decimal s.now }
 {
-    if s.len() == 0 {
-        return OptionU32::None;
+    if s.is_empty() {
+        return None;
     }
-    let mut n: u32 = 0;
-    let mut i: usize = 0;
-    while i < s.len() {
-        let OptionU32::Some(m) = with_digit(n, s[i]) else {
-            return OptionU32::None;
-        };
-        n = m;
-        i += 1;
+    let mut n = 0;
+    for c in s {
+        n = with_digit(n, *c)?;
     }
-    OptionU32::Some(n)
+    Some(n)
 }

@@ -1,4 +1,5 @@
 -- Every frame made is accepted by the telemetry reader: each draw's rule keeps within its field's type, and the frame's round trip does the rest. Assumes nothing.
+use Rattle.std.specs.Prelude.{Some, None, unwrap_or}
 use Prim.Native.Nat.{ℕ, zero, suc, ◌+◌, ◌/◌, ◌%◌, ◌^◌, ◌≤◌, ◌<◌}
 use mathlib.Core.Path.{◌≡◌, refl, ap, sym, ◌∙◌}
 use mathlib.Core.Bool.{Bool, true, false, cond}
@@ -6,7 +7,7 @@ use mathlib.Core.List.{List, [], ◌∷◌, ◌++◌}
 use mathlib.Core.Logic.{◌⊎◌, inl, inr, ⊎_elim}
 use native.Mathlib.Omega.{arith}
 use lib.Dec.{T, lit<, ltb}
-use lib.Ieee.{binary32, fits, of_int}
+use lib.Ieee.{binary32, fits, of_int, of_bits}
 use lib.Ieee.Bits.{of_bits-fits}
 use lib.Ieee.Fits.{div-fits}
 use lib.IntN.{pos}
@@ -16,19 +17,10 @@ use borrow.Author.Tests.{ltb-true, ltb-false}
 use Rattle.float32.specs.Binary32.{sub_f}
 use Rattle.types.specs.declared.GpsFix.{GpsFix}
 use Rattle.types.specs.declared.LandedState.{LandedState}
-use Rattle.types.specs.declared.OptionU8.{OptionU8}
-use Rattle.types.specs.declared.OptionU32.{OptionU32}
-use Rattle.types.specs.declared.OptionF32.{OptionF32}
-use Rattle.types.specs.declared.OptionPositionSample.{OptionPositionSample}
-use Rattle.types.specs.declared.OptionGpsSample.{OptionGpsSample}
-use Rattle.types.specs.declared.OptionStampedF32.{OptionStampedF32}
-use Rattle.types.specs.declared.OptionStampedBool.{OptionStampedBool}
-use Rattle.types.specs.declared.OptionStampedLandedState.{OptionStampedLandedState}
 use Rattle.types.specs.Numbers.{fix_number, landed_number}
 use Rattle.wire.specs.Fields.{u8_at, number_at, u32_at, flag_at, byte_below, le8, le_bytes, le32, le_flag}
 use Rattle.wire.specs.Cell.{Within}
 use Rattle.wire.proofs.Fields.{u32_back, flag_back}
-use Rattle.options.specs.Options.{u8_or_zero, u32_or_zero, f32_or_zero}
 use Rattle.options.specs.Position.{position_cells}
 use Rattle.frame_telemetry.specs.declared.TelemetryRead.{TelemetryRead}
 use Rattle.frame_telemetry.specs.Readings.{gps_cells, stamped_f32_cells, stamped_bool_cells, stamped_landed_cells}
@@ -76,23 +68,23 @@ module _ (now : ℕ) (d : List ℕ) where
   unfolding position_of vec3_of
   position_within = go (flag_of (at d 0))
     where
-      go : (b : Bool) → Within (position_cells (cond b (OptionPositionSample.Some (record { t_ms = stamp_of now (at d 1); pos = vec3_of d 2; vel = vec3_of d 5 })) OptionPositionSample.None))
+      go : (b : Bool) → Within (position_cells (cond b (Some (record { t_ms = stamp_of now (at d 1); pos = vec3_of d 2; vel = vec3_of d 5 })) None))
       go true = (stamp_within now (at d 1), (float_fits (at d 2), (float_fits (at d 3), (float_fits (at d 4), (float_fits (at d 5), (float_fits (at d 6), (float_fits (at d 7), tt)))))))
       go false = let f = of_bits-fits binary32 0 in (lit< tt, (f, (f, (f, (f, (f, (f, tt)))))))
 
-  sats_within : at d 12 < 2 ^ 32 → u8_or_zero (sats_of d) < 2 ^ 8
+  sats_within : at d 12 < 2 ^ 32 → unwrap_or (sats_of d) 0 < 2 ^ 8
   unfolding sats_of
   sats_within h = go (flag_of (at d 11))
     where
-      go : (b : Bool) → u8_or_zero (cond b (OptionU8.Some (byte_of (at d 12))) OptionU8.None) < 2 ^ 8
+      go : (b : Bool) → unwrap_or (cond b (Some (byte_of (at d 12))) None) 0 < 2 ^ 8
       go true = byte_within (at d 12) h
       go false = lit< tt
 
-  hdop_fits : T (fits binary32 (f32_or_zero (hdop_of d)))
+  hdop_fits : T (fits binary32 (unwrap_or (hdop_of d) (of_bits binary32 0)))
   unfolding hdop_of
   hdop_fits = go (flag_of (at d 13))
     where
-      go : (b : Bool) → T (fits binary32 (f32_or_zero (cond b (OptionF32.Some (float_of (at d 14))) OptionF32.None)))
+      go : (b : Bool) → T (fits binary32 (unwrap_or (cond b (Some (float_of (at d 14))) None) (of_bits binary32 0)))
       go true = float_fits (at d 14)
       go false = of_bits-fits binary32 0
 
@@ -103,7 +95,7 @@ module _ (now : ℕ) (d : List ℕ) where
       go :
           (b : Bool) →
           Within
-          (gps_cells (cond b (OptionGpsSample.Some (record { t_ms = stamp_of now (at d 9); fix = fix_of (at d 10); sats = sats_of d; hdop = hdop_of d })) OptionGpsSample.None))
+          (gps_cells (cond b (Some (record { t_ms = stamp_of now (at d 9); fix = fix_of (at d 10); sats = sats_of d; hdop = hdop_of d })) None))
       go true = (stamp_within now (at d 9), (fix_within (fix_of (at d 10)), (sats_within h, (hdop_fits, tt))))
       go false = (lit< tt, (lit< tt, (lit< tt, (of_bits-fits binary32 0, tt))))
 
@@ -111,15 +103,15 @@ module _ (now : ℕ) (d : List ℕ) where
   unfolding stamped_f32_of
   stamped_f32_within i = go (flag_of (at d i))
     where
-      go : (b : Bool) → Within (stamped_f32_cells (cond b (OptionStampedF32.Some (stamp_of now (at d (i + 1))) (float_of (at d (i + 2)))) OptionStampedF32.None))
+      go : (b : Bool) → Within (stamped_f32_cells (cond b (Some (record { t_ms = stamp_of now (at d (i + 1)); value = float_of (at d (i + 2)) })) None))
       go true = (stamp_within now (at d (i + 1)), (float_fits (at d (i + 2)), tt))
       go false = (lit< tt, (of_bits-fits binary32 0, tt))
 
-  heartbeat_within : u32_or_zero (heartbeat_of now d) < 2 ^ 32
+  heartbeat_within : unwrap_or (heartbeat_of now d) 0 < 2 ^ 32
   unfolding heartbeat_of
   heartbeat_within = go (flag_of (at d 24))
     where
-      go : (b : Bool) → u32_or_zero (cond b (OptionU32.Some (stamp_of now (at d 25))) OptionU32.None) < 2 ^ 32
+      go : (b : Bool) → unwrap_or (cond b (Some (stamp_of now (at d 25))) None) 0 < 2 ^ 32
       go true = stamp_within now (at d 25)
       go false = lit< tt
 
@@ -127,7 +119,7 @@ module _ (now : ℕ) (d : List ℕ) where
   unfolding stamped_bool_of
   stamped_bool_within i = go (flag_of (at d i))
     where
-      go : (b : Bool) → Within (stamped_bool_cells (cond b (OptionStampedBool.Some (stamp_of now (at d (i + 1))) (flag_of (at d (i + 2)))) OptionStampedBool.None))
+      go : (b : Bool) → Within (stamped_bool_cells (cond b (Some (record { t_ms = stamp_of now (at d (i + 1)); value = flag_of (at d (i + 2)) })) None))
       go true = (stamp_within now (at d (i + 1)), tt)
       go false = (lit< tt, tt)
 
@@ -135,7 +127,7 @@ module _ (now : ℕ) (d : List ℕ) where
   unfolding stamped_landed_of
   stamped_landed_within = go (flag_of (at d 29))
     where
-      go : (b : Bool) → Within (stamped_landed_cells (cond b (OptionStampedLandedState.Some (stamp_of now (at d 30)) (landed_of (at d 31))) OptionStampedLandedState.None))
+      go : (b : Bool) → Within (stamped_landed_cells (cond b (Some (record { t_ms = stamp_of now (at d 30); value = landed_of (at d 31) })) None))
       go true = (stamp_within now (at d 30), (landed_within (landed_of (at d 31)), tt))
       go false = (lit< tt, (lit< tt, tt))
 

@@ -1,4 +1,4 @@
--- Document 02, L6: "Every frame made is shown to be accepted by the telemetry reader." Assumes nothing.
+-- "Every frame made is shown to be accepted by the telemetry reader." Assumes nothing.
 use Rattle.std.specs.Prelude.{ℕ, ◌^◌, ◌<◌, ◌≤◌, ◌≡◌, List, [], ◌∷◌, ◌++◌, length, take, replicate}
 use Rattle.wire.specs.Fields.{le32}
 use Rattle.frame_telemetry.specs.declared.TelemetryRead.{TelemetryRead}

@@ -1,3 +1,3 @@
-// Document 02, L6: every frame of a trial flight is accepted by the telemetry reader. specs/Accepted.antt states it, proofs/Accepted.antt
+// Every frame of a trial flight is accepted by the telemetry reader. specs/Accepted.antt states it, proofs/Accepted.antt
 // shows it. No code.
 #![tactic(auto)]

@@ -3,51 +3,49 @@
 // crate `trial`; what is proved here is that the functions are safe and end.
 #![tactic(auto)]
 
-ghost use Rattle.std.specs.Prelude.{min, ◌≡◌, length, nat_le, if◌then◌else◌, MatchOption, string_bytes};
-ghost use Rattle.types.specs.declared.OptionU32.{OptionU32};
+ghost use Rattle.std.specs.Prelude.{◌≡◌, length, nat_le, if◌then◌else◌, MatchOption, string_bytes, None};
 ghost use Rattle.trial.specs.Decimal.{read_decimal};
 
 use std::env;
 use std::io::{Eprint, Print};
-use types::OptionU32;
 
 // The frames that a block has room for, of 106 bytes each.
 const BLOCK_FRAMES: usize = 618;
 
-// The frames of the next block, where so many are left.
-fn block_frames(left: usize) -> usize
-    ensures { result ≡ min left 618 }
-{
-    wire::smaller(left, BLOCK_FRAMES)
-}
-
 // An argument that is missing or longer than 32 bytes is no number.
-fn argument(text: Option<String>) -> OptionU32
-    ensures { MatchOption text (result ≡ OptionU32.None)
-        (λ s. result ≡ (if nat_le (length (string_bytes s)) 32 then read_decimal (string_bytes s) else OptionU32.None)) }
+fn argument(text: Option<String>) -> Option<u32>
+    ensures { MatchOption text (result ≡ None)
+        (λ s. result ≡ (if nat_le (length (string_bytes s)) 32 then read_decimal (string_bytes s) else None)) }
 {
     match text {
-        Some(word) => {
-            if word.len() <= 32 {
-                trial::read_decimal(word.as_bytes())
-            } else {
-                OptionU32::None
-            }
-        }
-        None => OptionU32::None,
+        Some(word) if word.len() <= 32 => trial::read_decimal(word.as_bytes()),
+        _ => None,
     }
+}
+
+// The seed and the count, where these two are all the arguments.
+fn arguments(rt: &HostRuntime) -> Option<(u32, u32)> {
+    let mut words = env::args(rt).ok()?;
+    let _program = words.next();
+    let seed = argument(words.next())?;
+    let count = argument(words.next())?;
+    if words.next().is_some() {
+        return None;
+    }
+    Some((seed, count))
 }
 
 // Ends early where a write fails.
 fn write_frames<P: Print>(rt: &P, seed: u32, count: u32) {
-    let mut block = [0u8; 65508];
+    let mut block = [0; 65508];
     let mut g = trial::seeded(seed);
     let mut left = count as usize;
-    let mut ok = true;
-    while left > 0 && ok {
-        let n = block_frames(left);
+    while left > 0 {
+        let n = left.min(BLOCK_FRAMES);
         g = trial::fill(g, n, &mut block);
-        ok = rt.write_all(&block[..106 * n]).is_ok();
+        if rt.write_all(&block[..106 * n]).is_err() {
+            return;
+        }
         left -= n;
     }
 }
@@ -59,25 +57,8 @@ fn complain<P: Eprint>(rt: &P) {
 }
 
 fn main(rt: HostRuntime) {
-    let Ok(mut words) = env::args(&rt) else {
-        complain(&rt);
-        return;
-    };
-    let _program = words.next();
-    let s = argument(words.next());
-    let c = argument(words.next());
-    let more = words.next().is_some();
-    let OptionU32::Some(seed) = s else {
-        complain(&rt);
-        return;
-    };
-    let OptionU32::Some(count) = c else {
-        complain(&rt);
-        return;
-    };
-    if more {
-        complain(&rt);
-        return;
+    match arguments(&rt) {
+        Some((seed, count)) => write_frames(&rt, seed, count),
+        None => complain(&rt),
     }
-    write_frames(&rt, seed, count);
 }

@@ -1,16 +1,13 @@
 -- Document 01, 'triggers': a whole step of the triggers. Assumes nothing.
-use Rattle.std.specs.Prelude.{Bool, true, false, cond, Float}
+use Rattle.std.specs.Prelude.{Bool, true, false, cond, Float, Option, Some, None}
 use Rattle.types.specs.declared.Action.{Action}
-use Rattle.types.specs.declared.OptionAction.{OptionAction}
 use Rattle.types.specs.declared.Reason.{Reason}
-use Rattle.types.specs.declared.OptionF32.{OptionF32}
 use Rattle.types.specs.declared.ActiveSet.{ActiveSet}
 use Rattle.types.specs.declared.Telemetry.{Telemetry}
 use Rattle.types.specs.ActiveSet.{empty_set, set_request}
 use Rattle.time.specs.Time.{Clock}
 use Rattle.config.specs.declared.Config.{Config}
 use Rattle.validate.specs.Fresh.{fresh_true, fresh_landed, fresh_battery_percent, fresh_voltage}
-use Rattle.triggers.specs.declared.OptionPlace.{OptionPlace}
 use Rattle.triggers.specs.declared.FenceHeld.{FenceHeld}
 use Rattle.triggers.specs.declared.RcLink.{RcLink}
 use Rattle.triggers.specs.declared.Raised.{Raised}
@@ -19,6 +16,7 @@ use Rattle.triggers.specs.declared.TriggerState.{TriggerState}
 use Rattle.triggers.specs.declared.Updated.{Updated}
 use Rattle.timers.specs.Timer.{cleared, raised_by}
 use Rattle.triggers.specs.Families.{invalid_input, gcs_link, rc_link, gps, ekf, in_air, fence, stale_battery, battery, energy}
+use Rattle.triggers.specs.declared.Place.{Place}
 
 -- nothing of what a kind 11 configuration keeps
 abbrev pub none_raised : Raised
@@ -108,7 +106,7 @@ without_gcs_timer s =
 
 -- what each family makes of the readings, which are validated and filtered. `place` is what is read of a valid position, `margin` what is left of
 -- the energy after a return.
-unfoldable pub families : Clock → TriggerState → Telemetry → Config → Float → Float → OptionPlace → OptionF32 → Bool → Families
+unfoldable pub families : Clock → TriggerState → Telemetry → Config → Float → Float → Option Place → Option Float → Bool → Families
 families clock s t cfg min_alt max_alt place margin invalid =
     let now = t.now_ms in
     let flying = in_air (fresh_landed clock now t.landed cfg.status_fresh_ms) in
@@ -129,9 +127,9 @@ families clock s t cfg min_alt max_alt place margin invalid =
 abbrev pub set_if : ActiveSet → Bool → Reason → Action → ActiveSet
 set_if s on r a = cond on (set_request s r a) s
 
-abbrev pub set_option : ActiveSet → Reason → OptionAction → ActiveSet
-set_option s r OptionAction.None = s
-set_option s r (OptionAction.Some a) = set_request s r a
+abbrev pub set_option : ActiveSet → Reason → Option Action → ActiveSet
+set_option s r None = s
+set_option s r (Some a) = set_request s r a
 
 -- document 02, L11: "GpsDegraded, GpsLost, EkfUnhealthy, FenceBreach, AltitudeMin, BatteryWarn, BatteryLow and EnergyRtlMarginal", each by its pair of timers;
 -- `keeps` is whether the configuration is of kind 11
@@ -223,7 +221,7 @@ next_triggers kept f =
     }
 
 -- "A clock fault yields only ClockFault and moves no timer in this module"; under kind 11 it "keeps what is raised"
-unfoldable pub update : Clock → TriggerState → Telemetry → Config → Float → Float → OptionPlace → OptionF32 → Bool → Bool → Updated
+unfoldable pub update : Clock → TriggerState → Telemetry → Config → Float → Float → Option Place → Option Float → Bool → Bool → Updated
 update clock s t cfg min_alt max_alt place margin invalid true = record { triggers = s; active = set_request empty_set Reason.ClockFault Action.Warn }
 update clock s t cfg min_alt max_alt place margin invalid false =
     let f = families clock s t cfg min_alt max_alt place margin invalid in

@@ -1,18 +1,15 @@
 // The Rust's triggers.rs: one function for each family of triggers, and update. Its timers are in `timers`.
-#![tactic(auto)]
+#![tactic(auto, unfolding(crate::specs::Families::invalid_input, crate::specs::Families::stage_request, crate::specs::Families::gcs_stage, crate::specs::Families::gcs_clearing, crate::specs::Families::gcs_link, crate::specs::Families::rc_link, crate::specs::Families::gps, crate::specs::Families::ekf, crate::specs::Families::fence_approach, crate::specs::Families::fence_breach, crate::specs::Families::altitude_max, crate::specs::Families::altitude_min, crate::specs::Families::fence, crate::specs::Families::stale_battery, crate::specs::Families::battery_warn, crate::specs::Families::battery_low, crate::specs::Families::battery_critical, crate::specs::Families::battery, crate::specs::Families::energy_marginal, crate::specs::Families::energy, crate::specs::Update::fresh_triggers, crate::specs::Update::without_gcs_timer, crate::specs::Update::families, crate::specs::Update::raised_of, crate::specs::Update::link_requests, crate::specs::Update::fence_requests, crate::specs::Update::battery_requests, crate::specs::Update::requests, crate::specs::Update::next_triggers, crate::specs::Update::update))]
 
 ghost use Rattle.std.specs.Prelude.{◌≡◌};
 ghost use Rattle.time.specs.Time.{wrapping};
-ghost use Rattle.triggers.specs.Families.{invalid_input, gcs_age, stage_request, gcs_clearing, gcs_stage, gcs_link, rc_link, few_sats, many_sats, poor_hdop, good_hdop, degraded, recovered, fixed, gps, ekf, fence_approach, fence_breach, altitude_max, in_air, altitude_min, fence, is_present, stale_battery, low_voltage, battery_warn, battery_low, battery_critical, battery, energy_marginal, energy};
+ghost use Rattle.triggers.specs.Families.{invalid_input, gcs_age, stage_request, gcs_clearing, gcs_stage, gcs_link, rc_link, few_sats, many_sats, poor_hdop, good_hdop, degraded, recovered, fixed, gps, ekf, fence_approach, fence_breach, altitude_max, in_air, altitude_min, fence, stale_battery, low_voltage, battery_warn, battery_low, battery_critical, battery, energy_marginal, energy};
 ghost use Rattle.triggers.specs.Update.{fresh_triggers, without_gcs_timer, families, none_raised, raised_of, kept_raised, rc_lost, set_if, set_option, link_requests, fence_requests, battery_requests, requests, next_triggers, update};
 
 use config::Config;
 use geometry::FenceDistance;
 use timers::{Held, PairHeld, Timer};
-use types::{
-    Action, ActiveSet, GpsFix, LandedState, OptionAction, OptionF32, OptionGpsSample,
-    OptionLandedState, OptionU8, OptionU32, Reason, Telemetry,
-};
+use types::{Action, ActiveSet, GpsFix, GpsSample, LandedState, Reason, Telemetry};
 
 // ---- invalid input
 
@@ -32,10 +29,9 @@ fn invalid_input(active: bool, clear: Timer, now: u32, invalid: bool, clear_ms: 
         }
     } else {
         let h = clear.held_set(now, true, clear_ms);
-        let t = h.timer;
         InvalidInput {
             active: active & !h.met,
-            clear: t,
+            clear: h.timer,
         }
     }
 }
@@ -46,35 +42,27 @@ fn invalid_input(active: bool, clear: Timer, now: u32, invalid: bool, clear_ms: 
 pub struct GcsLink {
     pub clear_timer: Timer,
     pub stage: u8,
-    pub request: OptionAction,
+    pub request: Option<Action>,
 }
 
 // The heartbeat's age; the largest number where it has none.
-fn gcs_age(now: u32, heartbeat: OptionU32) -> u32
+fn gcs_age(now: u32, heartbeat: Option<u32>) -> u32
     ensures { result ≡ gcs_age wrapping now heartbeat }
 {
-    match heartbeat {
-        OptionU32::Some(hb) => match time::age_ms(now, hb) {
-            OptionU32::Some(age) => age,
-            OptionU32::None => 0xffff_ffff,
-        },
-        OptionU32::None => 0xffff_ffff,
-    }
+    heartbeat
+        .and_then(|hb| time::age_ms(now, hb))
+        .unwrap_or(u32::MAX)
 }
 
-fn stage_request(stage: u8) -> OptionAction
+fn stage_request(stage: u8) -> Option<Action>
     ensures { result ≡ stage_request stage }
 {
-    if stage == 3 {
-        return OptionAction::Some(Action::ReturnToLaunch);
+    match stage {
+        1 => Some(Action::Warn),
+        2 => Some(Action::Hold),
+        3 => Some(Action::ReturnToLaunch),
+        _ => None,
     }
-    if stage == 2 {
-        return OptionAction::Some(Action::Hold);
-    }
-    if stage == 1 {
-        return OptionAction::Some(Action::Warn);
-    }
-    OptionAction::None
 }
 
 // While the link is good again, what its stage asked for stays until the clear timer is met.
@@ -82,19 +70,14 @@ fn gcs_clearing(timer: Timer, stage: u8, now: u32, clear_hold_ms: u32) -> GcsLin
     ensures { result ≡ gcs_clearing wrapping timer stage now clear_hold_ms }
 {
     let h = timer.held_set(now, true, clear_hold_ms);
-    let t = h.timer;
     if h.met {
         GcsLink {
-            clear_timer: t,
+            clear_timer: h.timer,
             stage: 0,
-            request: OptionAction::None,
+            request: None,
         }
     } else {
-        GcsLink {
-            clear_timer: t,
-            stage: stage,
-            request: stage_request(stage),
-        }
+        gcs_stage(h.timer, stage)
     }
 }
 
@@ -103,13 +86,13 @@ fn gcs_stage(timer: Timer, stage: u8) -> GcsLink
 {
     GcsLink {
         clear_timer: timer,
-        stage: stage,
+        stage,
         request: stage_request(stage),
     }
 }
 
-fn gcs_link(timer: Timer, stage: u8, now: u32, heartbeat: OptionU32, cfg: Config) -> GcsLink
-    ensures { result ≡ gcs_link wrapping timer stage now heartbeat cfg }
+fn gcs_link(timer: Timer, stage: u8, now: u32, heartbeat: Option<u32>, cfg: &Config) -> GcsLink
+    ensures { result ≡ gcs_link wrapping timer stage now heartbeat cfg.now }
 {
     let age = gcs_age(now, heartbeat);
     if cfg.gcs_rtl_ms < age {
@@ -126,8 +109,8 @@ fn gcs_link(timer: Timer, stage: u8, now: u32, heartbeat: OptionU32, cfg: Config
     }
     GcsLink {
         clear_timer: Timer::clear(),
-        stage: stage,
-        request: OptionAction::None,
+        stage,
+        request: None,
     }
 }
 
@@ -142,27 +125,24 @@ pub struct RcLink {
     pub met: bool,
 }
 
-fn rc_link(set: Timer, clear: Timer, now: u32, good: bool, cfg: Config) -> RcLink
-    ensures { result ≡ rc_link wrapping set clear now good cfg }
+fn rc_link(set: Timer, clear: Timer, now: u32, good: bool, cfg: &Config) -> RcLink
+    ensures { result ≡ rc_link wrapping set clear now good cfg.now }
 {
     let bad = cfg.rc_required & !good;
     let s = set.held_set(now, bad, cfg.rc_lost_set_ms);
-    let st = s.timer;
     if s.met {
         return RcLink {
-            set: st,
-            clear: clear,
+            set: s.timer,
+            clear,
             lost: true,
             met: true,
         };
     }
     let c = clear.held_set(now, good, cfg.rc_lost_clear_ms);
-    let ct = c.timer;
-    let p = st.pending();
     RcLink {
-        set: st,
-        clear: ct,
-        lost: p & !c.met,
+        set: s.timer,
+        clear: c.timer,
+        lost: s.timer.pending() & !c.met,
         met: false,
     }
 }
@@ -175,120 +155,72 @@ pub struct GpsHeld {
     pub lost: PairHeld,
 }
 
-fn few_sats(sats: OptionU8) -> bool
+fn few_sats(sats: Option<u8>) -> bool
     ensures { result ≡ few_sats sats }
 {
-    match sats {
-        OptionU8::Some(n) => n < 8,
-        OptionU8::None => true,
-    }
+    sats.is_none_or(|n| n < 8)
 }
 
-fn many_sats(sats: OptionU8) -> bool
+fn many_sats(sats: Option<u8>) -> bool
     ensures { result ≡ many_sats sats }
 {
-    match sats {
-        OptionU8::Some(n) => 10 <= n,
-        OptionU8::None => false,
-    }
+    sats.is_some_and(|n| 10 <= n)
 }
 
-fn poor_hdop(hdop: OptionF32) -> bool
+fn poor_hdop(hdop: Option<f32>) -> bool
     ensures { result ≡ poor_hdop hdop }
 {
-    match hdop {
-        OptionF32::Some(h) => 2.5 < h,
-        OptionF32::None => true,
-    }
+    hdop.is_none_or(|h| 2.5 < h)
 }
 
-fn good_hdop(hdop: OptionF32) -> bool
+fn good_hdop(hdop: Option<f32>) -> bool
     ensures { result ≡ good_hdop hdop }
 {
-    match hdop {
-        OptionF32::Some(h) => h <= 2.0,
-        OptionF32::None => false,
-    }
+    hdop.is_some_and(|h| h <= 2.0)
 }
 
-fn is_degraded(gps: OptionGpsSample) -> bool
+fn is_degraded(gps: Option<GpsSample>) -> bool
     ensures { result ≡ degraded gps }
 {
-    match gps {
-        OptionGpsSample::Some(g) => {
-            let s = g.sats;
-            let h = g.hdop;
-            let few = few_sats(s);
-            let poor = poor_hdop(h);
-            few | poor
-        }
-        OptionGpsSample::None => true,
-    }
+    gps.is_none_or(|g| few_sats(g.sats) | poor_hdop(g.hdop))
 }
 
-fn is_recovered(gps: OptionGpsSample) -> bool
+fn is_recovered(gps: Option<GpsSample>) -> bool
     ensures { result ≡ recovered gps }
 {
-    match gps {
-        OptionGpsSample::Some(g) => {
-            let s = g.sats;
-            let h = g.hdop;
-            let many = many_sats(s);
-            let good = good_hdop(h);
-            many & good
-        }
-        OptionGpsSample::None => false,
-    }
+    gps.is_some_and(|g| many_sats(g.sats) & good_hdop(g.hdop))
 }
 
-fn is_fixed(gps: OptionGpsSample) -> bool
+fn is_fixed(gps: Option<GpsSample>) -> bool
     ensures { result ≡ fixed gps }
 {
-    match gps {
-        OptionGpsSample::Some(g) => {
-            let f = g.fix;
-            match f {
-                GpsFix::Fix3D => true,
-                GpsFix::Fix2D => false,
-                GpsFix::None => false,
-            }
-        }
-        OptionGpsSample::None => false,
-    }
+    gps.is_some_and(|g| g.fix == GpsFix::Fix3D)
 }
 
-fn gps_held(s: TriggerState, now: u32, sample: OptionGpsSample, cfg: Config) -> GpsHeld
-    ensures { result ≡ gps wrapping s now sample cfg }
+fn gps_held(s: &TriggerState, now: u32, sample: Option<GpsSample>, cfg: &Config) -> GpsHeld
+    ensures { result ≡ gps wrapping s.now now sample cfg.now }
 {
-    let d1 = s.gps_deg_set;
-    let d2 = s.gps_deg_clear;
-    let l1 = s.gps_lost_set;
-    let l2 = s.gps_lost_clear;
-    let g = validate::fresh_gps(now, sample, cfg.gps_fresh_ms);
-    let bad = is_degraded(g);
-    let good = is_recovered(g);
-    let fix = is_fixed(g);
-    let d = timers::hold_pair(
-        d1,
-        d2,
-        now,
-        bad,
-        cfg.gps_degraded_set_ms,
-        good,
-        cfg.gps_degraded_clear_ms,
-    );
-    let l = timers::hold_pair(
-        l1,
-        l2,
-        now,
-        !fix,
-        cfg.gps_lost_set_ms,
-        fix,
-        cfg.gps_lost_clear_ms,
-    );
+    let gps = validate::fresh_gps(now, sample, cfg.gps_fresh_ms);
+    let fixed = is_fixed(gps);
     GpsHeld {
-        degraded: d,
-        lost: l,
+        degraded: timers::hold_pair(
+            s.gps_deg_set,
+            s.gps_deg_clear,
+            now,
+            is_degraded(gps),
+            cfg.gps_degraded_set_ms,
+            is_recovered(gps),
+            cfg.gps_degraded_clear_ms,
+        ),
+        lost: timers::hold_pair(
+            s.gps_lost_set,
+            s.gps_lost_clear,
+            now,
+            !fixed,
+            cfg.gps_lost_set_ms,
+            fixed,
+            cfg.gps_lost_clear_ms,
+        ),
     }
 }
 
@@ -303,12 +235,6 @@ pub struct Place {
 }
 
 #[derive(Clone, Copy)]
-pub enum OptionPlace {
-    None,
-    Some(Place),
-}
-
-#[derive(Clone, Copy)]
 pub struct FenceHeld {
     pub approach: bool,
     pub breach: PairHeld,
@@ -316,14 +242,14 @@ pub struct FenceHeld {
     pub alt_min: PairHeld,
 }
 
-fn fence_approach(dist: f32, cfg: Config) -> bool
-    ensures { result ≡ fence_approach dist cfg }
+fn fence_approach(dist: f32, cfg: &Config) -> bool
+    ensures { result ≡ fence_approach dist cfg.now }
 {
     (0.0 <= dist) & (dist < cfg.fence_approach_m)
 }
 
-fn fence_breach(set: Timer, clear: Timer, now: u32, dist: f32, cfg: Config) -> PairHeld
-    ensures { result ≡ fence_breach wrapping set clear now dist cfg }
+fn fence_breach(set: Timer, clear: Timer, now: u32, dist: f32, cfg: &Config) -> PairHeld
+    ensures { result ≡ fence_breach wrapping set clear now dist cfg.now }
 {
     let bad = dist < 0.0;
     let good = cfg.fence_breach_clear_m <= dist;
@@ -345,9 +271,9 @@ fn altitude_max(
     now: u32,
     alt: f32,
     max_alt_m: f32,
-    cfg: Config,
+    cfg: &Config,
 ) -> PairHeld
-    ensures { result ≡ altitude_max wrapping set clear now alt max_alt_m cfg }
+    ensures { result ≡ altitude_max wrapping set clear now alt max_alt_m cfg.now }
 {
     if max_alt_m < alt {
         let good = alt < max_alt_m - cfg.alt_max_clear_m;
@@ -365,19 +291,10 @@ fn altitude_max(
     }
 }
 
-fn in_air(landed: OptionLandedState) -> bool
+fn in_air(landed: Option<LandedState>) -> bool
     ensures { result ≡ in_air landed }
 {
-    match landed {
-        OptionLandedState::Some(l) => match l {
-            LandedState::InAir => true,
-            LandedState::Undefined => false,
-            LandedState::OnGround => false,
-            LandedState::Takeoff => false,
-            LandedState::Landing => false,
-        },
-        OptionLandedState::None => false,
-    }
+    landed == Some(LandedState::InAir)
 }
 
 fn altitude_min(
@@ -387,9 +304,9 @@ fn altitude_min(
     place: Place,
     flying: bool,
     min_alt_m: f32,
-    cfg: Config,
+    cfg: &Config,
 ) -> PairHeld
-    ensures { result ≡ altitude_min wrapping set clear now place flying min_alt_m cfg }
+    ensures { result ≡ altitude_min wrapping set clear now place flying min_alt_m cfg.now }
 {
     let alt = place.alt_m;
     let home = place.home_dist_m;
@@ -408,40 +325,31 @@ fn altitude_min(
 
 // Timers rest without a valid position.
 fn fence_held(
-    s: TriggerState,
+    s: &TriggerState,
     now: u32,
-    place: OptionPlace,
+    place: Option<Place>,
     flying: bool,
     min_alt_m: f32,
     max_alt_m: f32,
-    cfg: Config,
+    cfg: &Config,
 ) -> FenceHeld
-    ensures { result ≡ fence wrapping s now place flying min_alt_m max_alt_m cfg }
+    ensures { result ≡ fence wrapping s.now now place flying min_alt_m max_alt_m cfg.now }
 {
-    let b1 = s.fence_breach_set;
-    let b2 = s.fence_breach_clear;
-    let h1 = s.alt_max_set;
-    let h2 = s.alt_max_clear;
-    let l1 = s.alt_min_set;
-    let l2 = s.alt_min_clear;
+    let (breach_set, breach_clear) = (s.fence_breach_set, s.fence_breach_clear);
+    let (max_set, max_clear) = (s.alt_max_set, s.alt_max_clear);
+    let (min_set, min_clear) = (s.alt_min_set, s.alt_min_clear);
     match place {
-        OptionPlace::Some(p) => {
-            let approach = fence_approach(p.fence.m, cfg);
-            let breach = fence_breach(b1, b2, now, p.fence.m, cfg);
-            let alt_max = altitude_max(h1, h2, now, p.alt_m, max_alt_m, cfg);
-            let alt_min = altitude_min(l1, l2, now, p, flying, min_alt_m, cfg);
-            FenceHeld {
-                approach: approach,
-                breach: breach,
-                alt_max: alt_max,
-                alt_min: alt_min,
-            }
-        }
-        OptionPlace::None => FenceHeld {
+        Some(p) => FenceHeld {
+            approach: fence_approach(p.fence.m, cfg),
+            breach: fence_breach(breach_set, breach_clear, now, p.fence.m, cfg),
+            alt_max: altitude_max(max_set, max_clear, now, p.alt_m, max_alt_m, cfg),
+            alt_min: altitude_min(min_set, min_clear, now, p, flying, min_alt_m, cfg),
+        },
+        None => FenceHeld {
             approach: false,
-            breach: timers::rested(b1, b2),
-            alt_max: timers::rested(h1, h2),
-            alt_min: timers::rested(l1, l2),
+            breach: timers::rested(breach_set, breach_clear),
+            alt_max: timers::rested(max_set, max_clear),
+            alt_min: timers::rested(min_set, min_clear),
         },
     }
 }
@@ -454,39 +362,24 @@ pub struct StaleBattery {
     pub clear: Timer,
 }
 
-fn is_present(x: OptionF32) -> bool
-    ensures { result ≡ is_present x }
-{
-    match x {
-        OptionF32::Some(_) => true,
-        OptionF32::None => false,
-    }
-}
-
 // Stale without a fresh voltage and a fresh charge. The clear timer runs otherwise; nothing reads it.
 fn stale_battery(
     clear: Timer,
     now: u32,
-    percent: OptionF32,
-    volts: OptionF32,
+    percent: Option<f32>,
+    volts: Option<f32>,
     clear_ms: u32,
 ) -> StaleBattery
     ensures { result ≡ stale_battery wrapping clear now percent volts clear_ms }
 {
-    let has_p = is_present(percent);
-    let has_v = is_present(volts);
-    if has_v | has_p {
+    if volts.is_some() | percent.is_some() {
         let h = clear.held_set(now, true, clear_ms);
-        let t = h.timer;
         StaleBattery {
             stale: false,
-            clear: t,
+            clear: h.timer,
         }
     } else {
-        StaleBattery {
-            stale: true,
-            clear: clear,
-        }
+        StaleBattery { stale: true, clear }
     }
 }
 
@@ -499,17 +392,14 @@ pub struct BatteryHeld {
     pub critical: bool,
 }
 
-fn low_voltage(volts: OptionF32, cfg: Config) -> bool
-    ensures { result ≡ low_voltage volts cfg }
+fn low_voltage(volts: Option<f32>, cfg: &Config) -> bool
+    ensures { result ≡ low_voltage volts cfg.now }
 {
-    match volts {
-        OptionF32::Some(v) => v < cfg.battery_critical_v_per_cell * (cfg.cell_count as f32),
-        OptionF32::None => false,
-    }
+    volts.is_some_and(|v| v < cfg.battery_critical_v_per_cell * (cfg.cell_count as f32))
 }
 
-fn battery_warn(set: Timer, clear: Timer, now: u32, p: f32, cfg: Config) -> PairHeld
-    ensures { result ≡ battery_warn wrapping set clear now p cfg }
+fn battery_warn(set: Timer, clear: Timer, now: u32, p: f32, cfg: &Config) -> PairHeld
+    ensures { result ≡ battery_warn wrapping set clear now p cfg.now }
 {
     let bad = p < cfg.battery_warn_pct;
     let good = cfg.battery_warn_clear_pct < p;
@@ -524,8 +414,8 @@ fn battery_warn(set: Timer, clear: Timer, now: u32, p: f32, cfg: Config) -> Pair
     )
 }
 
-fn battery_low(set: Timer, clear: Timer, now: u32, p: f32, cfg: Config) -> PairHeld
-    ensures { result ≡ battery_low wrapping set clear now p cfg }
+fn battery_low(set: Timer, clear: Timer, now: u32, p: f32, cfg: &Config) -> PairHeld
+    ensures { result ≡ battery_low wrapping set clear now p cfg.now }
 {
     let bad = p < cfg.battery_low_pct;
     let good = cfg.battery_low_clear_pct < p;
@@ -540,8 +430,8 @@ fn battery_low(set: Timer, clear: Timer, now: u32, p: f32, cfg: Config) -> PairH
     )
 }
 
-fn battery_critical(set: Timer, now: u32, p: f32, volts: OptionF32, cfg: Config) -> Held
-    ensures { result ≡ battery_critical wrapping set now p volts cfg }
+fn battery_critical(set: Timer, now: u32, p: f32, volts: Option<f32>, cfg: &Config) -> Held
+    ensures { result ≡ battery_critical wrapping set now p volts cfg.now }
 {
     let low = low_voltage(volts, cfg);
     set.held_set(
@@ -553,38 +443,30 @@ fn battery_critical(set: Timer, now: u32, p: f32, volts: OptionF32, cfg: Config)
 
 // Without a fresh charge the timers rest, and a latched Land is not filed.
 fn battery_held(
-    s: TriggerState,
+    s: &TriggerState,
     now: u32,
-    percent: OptionF32,
-    volts: OptionF32,
-    cfg: Config,
+    percent: Option<f32>,
+    volts: Option<f32>,
+    cfg: &Config,
 ) -> BatteryHeld
-    ensures { result ≡ battery wrapping s now percent volts cfg }
+    ensures { result ≡ battery wrapping s.now now percent volts cfg.now }
 {
-    let w1 = s.bat_warn_set;
-    let w2 = s.bat_warn_clear;
-    let l1 = s.bat_low_set;
-    let l2 = s.bat_low_clear;
-    let c1 = s.bat_crit_set;
     let was = s.battery_critical_latched;
     match percent {
-        OptionF32::Some(p) => {
-            let warn = battery_warn(w1, w2, now, p, cfg);
-            let low = battery_low(l1, l2, now, p, cfg);
-            let crit = battery_critical(c1, now, p, volts, cfg);
-            let t = crit.timer;
+        Some(p) => {
+            let crit = battery_critical(s.bat_crit_set, now, p, volts, cfg);
             BatteryHeld {
-                warn: warn,
-                low: low,
-                crit_set: t,
+                warn: battery_warn(s.bat_warn_set, s.bat_warn_clear, now, p, cfg),
+                low: battery_low(s.bat_low_set, s.bat_low_clear, now, p, cfg),
+                crit_set: crit.timer,
                 latched: was | crit.met,
                 critical: was | crit.met,
             }
         }
-        OptionF32::None => BatteryHeld {
-            warn: timers::rested(w1, w2),
-            low: timers::rested(l1, l2),
-            crit_set: c1,
+        None => BatteryHeld {
+            warn: timers::rested(s.bat_warn_set, s.bat_warn_clear),
+            low: timers::rested(s.bat_low_set, s.bat_low_clear),
+            crit_set: s.bat_crit_set,
             latched: was,
             critical: false,
         },
@@ -601,8 +483,8 @@ pub struct EnergyHeld {
     pub infeasible: bool,
 }
 
-fn energy_marginal(set: Timer, clear: Timer, now: u32, margin: f32, cfg: Config) -> PairHeld
-    ensures { result ≡ energy_marginal wrapping set clear now margin cfg }
+fn energy_marginal(set: Timer, clear: Timer, now: u32, margin: f32, cfg: &Config) -> PairHeld
+    ensures { result ≡ energy_marginal wrapping set clear now margin cfg.now }
 {
     let bad = (0.0 <= margin) & (margin < cfg.energy_marginal_wh);
     let good = cfg.energy_marginal_clear_wh < margin;
@@ -617,28 +499,25 @@ fn energy_marginal(set: Timer, clear: Timer, now: u32, margin: f32, cfg: Config)
     )
 }
 
-fn energy_held(s: TriggerState, now: u32, margin: OptionF32, cfg: Config) -> EnergyHeld
-    ensures { result ≡ energy wrapping s now margin cfg }
+fn energy_held(s: &TriggerState, now: u32, margin: Option<f32>, cfg: &Config) -> EnergyHeld
+    ensures { result ≡ energy wrapping s.now now margin cfg.now }
 {
-    let m1 = s.energy_marg_set;
-    let m2 = s.energy_marg_clear;
-    let i1 = s.energy_infeas_set;
     let was = s.energy_infeasible_latched;
     match margin {
-        OptionF32::Some(m) => {
-            let marginal = energy_marginal(m1, m2, now, m, cfg);
-            let h = i1.held_set(now, m < 0.0, cfg.energy_infeasible_set_ms);
-            let t = h.timer;
+        Some(m) => {
+            let h = s
+                .energy_infeas_set
+                .held_set(now, m < 0.0, cfg.energy_infeasible_set_ms);
             EnergyHeld {
-                marginal: marginal,
-                infeas_set: t,
+                marginal: energy_marginal(s.energy_marg_set, s.energy_marg_clear, now, m, cfg),
+                infeas_set: h.timer,
                 latched: was | h.met,
                 infeasible: was | h.met,
             }
         }
-        OptionF32::None => EnergyHeld {
-            marginal: timers::rested(m1, m2),
-            infeas_set: i1,
+        None => EnergyHeld {
+            marginal: timers::rested(s.energy_marg_set, s.energy_marg_clear),
+            infeas_set: s.energy_infeas_set,
             latched: was,
             infeasible: false,
         },
@@ -716,8 +595,8 @@ pub struct Updated {
     pub active: ActiveSet,
 }
 
-fn ekf_held(set: Timer, clear: Timer, now: u32, healthy: bool, cfg: Config) -> PairHeld
-    ensures { result ≡ ekf wrapping set clear now healthy cfg }
+fn ekf_held(set: Timer, clear: Timer, now: u32, healthy: bool, cfg: &Config) -> PairHeld
+    ensures { result ≡ ekf wrapping set clear now healthy cfg.now }
 {
     timers::hold_pair(
         set,
@@ -731,55 +610,48 @@ fn ekf_held(set: Timer, clear: Timer, now: u32, healthy: bool, cfg: Config) -> P
 }
 
 fn all_families(
-    s: TriggerState,
-    t: Telemetry,
-    cfg: Config,
+    s: &TriggerState,
+    t: &Telemetry,
+    cfg: &Config,
     min_alt_m: f32,
     max_alt_m: f32,
-    place: OptionPlace,
-    margin: OptionF32,
+    place: Option<Place>,
+    margin: Option<f32>,
     invalid: bool,
 ) -> Families
-    ensures { result ≡ families wrapping s t cfg min_alt_m max_alt_m place margin invalid }
+    ensures { result ≡ families wrapping s.now t.now cfg.now min_alt_m max_alt_m place margin invalid }
 {
     let now = t.now_ms;
-    let invalid_clear = s.invalid_clear;
-    let gcs_timer = s.gcs_clear_timer;
-    let heartbeat = t.gcs_heartbeat_ms;
-    let rc_set = s.rc_lost_set;
-    let rc_clear = s.rc_clear_timer;
-    let rc_ok = t.rc_ok;
-    let gps = t.gps;
-    let ekf_set = s.ekf_set;
-    let ekf_clear = s.ekf_clear;
-    let ekf_ok = t.ekf_ok;
-    let landed = t.landed;
-    let stale_clear = s.stale_bat_clear;
-    let battery = t.battery;
-    let rc_good = validate::fresh_true(now, rc_ok, cfg.status_fresh_ms);
-    let healthy = validate::fresh_true(now, ekf_ok, cfg.status_fresh_ms);
-    let flying = in_air(validate::fresh_landed(now, landed, cfg.status_fresh_ms));
+    let rc_good = validate::fresh_true(now, t.rc_ok, cfg.status_fresh_ms);
+    let healthy = validate::fresh_true(now, t.ekf_ok, cfg.status_fresh_ms);
+    let flying = in_air(validate::fresh_landed(now, t.landed, cfg.status_fresh_ms));
     let percent = validate::fresh_battery_percent(
         now,
-        battery,
+        t.battery,
         cfg.battery_fresh_ms,
         cfg.usable_capacity_wh,
     );
-    let volts = validate::fresh_voltage(now, battery, cfg.battery_fresh_ms);
+    let volts = validate::fresh_voltage(now, t.battery, cfg.battery_fresh_ms);
     Families {
         invalid: invalid_input(
             s.invalid_active,
-            invalid_clear,
+            s.invalid_clear,
             now,
             invalid,
             cfg.invalid_input_clear_ms,
         ),
-        gcs: gcs_link(gcs_timer, s.gcs_stage, now, heartbeat, cfg),
-        rc: rc_link(rc_set, rc_clear, now, rc_good, cfg),
-        gps: gps_held(s, now, gps, cfg),
-        ekf: ekf_held(ekf_set, ekf_clear, now, healthy, cfg),
+        gcs: gcs_link(s.gcs_clear_timer, s.gcs_stage, now, t.gcs_heartbeat_ms, cfg),
+        rc: rc_link(s.rc_lost_set, s.rc_clear_timer, now, rc_good, cfg),
+        gps: gps_held(s, now, t.gps, cfg),
+        ekf: ekf_held(s.ekf_set, s.ekf_clear, now, healthy, cfg),
         fence: fence_held(s, now, place, flying, min_alt_m, max_alt_m, cfg),
-        stale: stale_battery(stale_clear, now, percent, volts, cfg.stale_battery_clear_ms),
+        stale: stale_battery(
+            s.stale_bat_clear,
+            now,
+            percent,
+            volts,
+            cfg.stale_battery_clear_ms,
+        ),
         battery: battery_held(s, now, percent, volts, cfg),
         energy: energy_held(s, now, margin, cfg),
     }
@@ -804,38 +676,34 @@ impl Raised {
 
 // What is raised at a step, each by its pair of timers. There is one branch for the rule, which is quicker than a choice for each; under
 // kind 1 nothing is read of what was raised before.
-fn raised_of(keeps: bool, before: Raised, f: Families) -> Raised
-    ensures { result ≡ raised_of keeps before f }
+fn raised_of(keeps: bool, before: Raised, f: &Families) -> Raised
+    ensures { result ≡ raised_of keeps before f.now }
 {
-    let gps_degraded = f.gps.degraded;
-    let gps_lost = f.gps.lost;
-    let ekf = f.ekf;
-    let breach = f.fence.breach;
-    let alt_min = f.fence.alt_min;
-    let warn = f.battery.warn;
-    let low = f.battery.low;
-    let marginal = f.energy.marginal;
     if keeps {
         Raised {
-            gps_degraded: timers::raised_by(true, before.gps_degraded, gps_degraded),
-            gps_lost: timers::raised_by(true, before.gps_lost, gps_lost),
-            ekf_unhealthy: timers::raised_by(true, before.ekf_unhealthy, ekf),
-            fence_breach: timers::raised_by(true, before.fence_breach, breach),
-            altitude_min: timers::raised_by(true, before.altitude_min, alt_min),
-            battery_warn: timers::raised_by(true, before.battery_warn, warn),
-            battery_low: timers::raised_by(true, before.battery_low, low),
-            energy_rtl_marginal: timers::raised_by(true, before.energy_rtl_marginal, marginal),
+            gps_degraded: timers::raised_by(true, before.gps_degraded, f.gps.degraded),
+            gps_lost: timers::raised_by(true, before.gps_lost, f.gps.lost),
+            ekf_unhealthy: timers::raised_by(true, before.ekf_unhealthy, f.ekf),
+            fence_breach: timers::raised_by(true, before.fence_breach, f.fence.breach),
+            altitude_min: timers::raised_by(true, before.altitude_min, f.fence.alt_min),
+            battery_warn: timers::raised_by(true, before.battery_warn, f.battery.warn),
+            battery_low: timers::raised_by(true, before.battery_low, f.battery.low),
+            energy_rtl_marginal: timers::raised_by(
+                true,
+                before.energy_rtl_marginal,
+                f.energy.marginal,
+            ),
         }
     } else {
         Raised {
-            gps_degraded: timers::raised_by(false, false, gps_degraded),
-            gps_lost: timers::raised_by(false, false, gps_lost),
-            ekf_unhealthy: timers::raised_by(false, false, ekf),
-            fence_breach: timers::raised_by(false, false, breach),
-            altitude_min: timers::raised_by(false, false, alt_min),
-            battery_warn: timers::raised_by(false, false, warn),
-            battery_low: timers::raised_by(false, false, low),
-            energy_rtl_marginal: timers::raised_by(false, false, marginal),
+            gps_degraded: timers::raised_by(false, false, f.gps.degraded),
+            gps_lost: timers::raised_by(false, false, f.gps.lost),
+            ekf_unhealthy: timers::raised_by(false, false, f.ekf),
+            fence_breach: timers::raised_by(false, false, f.fence.breach),
+            altitude_min: timers::raised_by(false, false, f.fence.alt_min),
+            battery_warn: timers::raised_by(false, false, f.battery.warn),
+            battery_low: timers::raised_by(false, false, f.battery.low),
+            energy_rtl_marginal: timers::raised_by(false, false, f.energy.marginal),
         }
     }
 }
@@ -848,8 +716,8 @@ fn kept_raised(keeps: bool, on: Raised) -> Raised
 }
 
 // Where raised requests are kept, RcLost waits for its hold.
-fn rc_lost(keeps: bool, rc: RcLink) -> bool
-    ensures { result ≡ rc_lost keeps rc }
+fn rc_lost(keeps: bool, rc: &RcLink) -> bool
+    ensures { result ≡ rc_lost keeps rc.now }
 {
     if keeps { rc.met } else { rc.lost }
 }
@@ -864,26 +732,23 @@ fn set_if(active: ActiveSet, on: bool, reason: Reason, action: Action) -> Active
     }
 }
 
-fn set_option(active: ActiveSet, reason: Reason, action: OptionAction) -> ActiveSet
+fn set_option(active: ActiveSet, reason: Reason, action: Option<Action>) -> ActiveSet
     ensures { result ≡ set_option active reason action }
 {
     match action {
-        OptionAction::Some(a) => active.set(reason, a),
-        OptionAction::None => active,
+        Some(a) => active.set(reason, a),
+        None => active,
     }
 }
 
 // Requests are filed in the Rust's order, in three parts.
-fn link_requests(keeps: bool, on: Raised, f: Families) -> ActiveSet
-    ensures { result ≡ link_requests keeps on f }
+fn link_requests(keeps: bool, on: Raised, f: &Families) -> ActiveSet
+    ensures { result ≡ link_requests keeps on f.now }
 {
-    let gcs = f.gcs;
-    let rc = f.rc;
-    let link = gcs.request;
     let a0 = ActiveSet::new();
     let a1 = set_if(a0, f.invalid.active, Reason::InvalidInput, Action::Warn);
-    let a2 = set_option(a1, Reason::GcsLinkLost, link);
-    let lost = rc_lost(keeps, rc);
+    let a2 = set_option(a1, Reason::GcsLinkLost, f.gcs.request);
+    let lost = rc_lost(keeps, &f.rc);
     let a3 = set_if(a2, lost, Reason::RcLost, Action::ReturnToLaunch);
     let a4 = set_if(a3, on.gps_degraded, Reason::GpsDegraded, Action::Warn);
     let a5 = set_if(a4, on.gps_lost, Reason::GpsLost, Action::Land);
@@ -891,11 +756,10 @@ fn link_requests(keeps: bool, on: Raised, f: Families) -> ActiveSet
 }
 
 // AltitudeMax is not among those that are kept.
-fn fence_requests(a: ActiveSet, on: Raised, f: FenceHeld) -> ActiveSet
-    ensures { result ≡ fence_requests a on f }
+fn fence_requests(a: ActiveSet, on: Raised, f: &FenceHeld) -> ActiveSet
+    ensures { result ≡ fence_requests a on f.now }
 {
-    let alt_max = f.alt_max;
-    let high = timers::raised_by(false, false, alt_max);
+    let high = timers::raised_by(false, false, f.alt_max);
     let a1 = set_if(a, f.approach, Reason::FenceApproach, Action::Warn);
     let a2 = set_if(
         a1,
@@ -907,8 +771,8 @@ fn fence_requests(a: ActiveSet, on: Raised, f: FenceHeld) -> ActiveSet
     set_if(a3, on.altitude_min, Reason::AltitudeMin, Action::Warn)
 }
 
-fn battery_requests(a: ActiveSet, on: Raised, f: Families) -> ActiveSet
-    ensures { result ≡ battery_requests a on f }
+fn battery_requests(a: ActiveSet, on: Raised, f: &Families) -> ActiveSet
+    ensures { result ≡ battery_requests a on f.now }
 {
     let a1 = set_if(
         a,
@@ -943,72 +807,46 @@ fn battery_requests(a: ActiveSet, on: Raised, f: Families) -> ActiveSet
     )
 }
 
-fn requests(keeps: bool, on: Raised, f: Families) -> ActiveSet
-    ensures { result ≡ requests keeps on f }
+fn requests(keeps: bool, on: Raised, f: &Families) -> ActiveSet
+    ensures { result ≡ requests keeps on f.now }
 {
-    let fence = f.fence;
     let a1 = link_requests(keeps, on, f);
-    let a2 = fence_requests(a1, on, fence);
+    let a2 = fence_requests(a1, on, &f.fence);
     battery_requests(a2, on, f)
 }
 
-fn next_triggers(kept: Raised, f: Families) -> TriggerState
-    ensures { result ≡ next_triggers kept f }
+fn next_triggers(kept: Raised, f: &Families) -> TriggerState
+    ensures { result ≡ next_triggers kept f.now }
 {
-    let gcs_clear_timer = f.gcs.clear_timer;
-    let rc_clear_timer = f.rc.clear;
-    let gps_deg_set = f.gps.degraded.set;
-    let gps_deg_clear = f.gps.degraded.clear;
-    let gps_lost_set = f.gps.lost.set;
-    let gps_lost_clear = f.gps.lost.clear;
-    let ekf_set = f.ekf.set;
-    let ekf_clear = f.ekf.clear;
-    let fence_breach_set = f.fence.breach.set;
-    let fence_breach_clear = f.fence.breach.clear;
-    let alt_max_set = f.fence.alt_max.set;
-    let alt_max_clear = f.fence.alt_max.clear;
-    let alt_min_set = f.fence.alt_min.set;
-    let alt_min_clear = f.fence.alt_min.clear;
-    let stale_bat_clear = f.stale.clear;
-    let bat_warn_set = f.battery.warn.set;
-    let bat_warn_clear = f.battery.warn.clear;
-    let bat_low_set = f.battery.low.set;
-    let bat_low_clear = f.battery.low.clear;
-    let bat_crit_set = f.battery.crit_set;
-    let energy_marg_set = f.energy.marginal.set;
-    let energy_marg_clear = f.energy.marginal.clear;
-    let energy_infeas_set = f.energy.infeas_set;
-    let invalid_clear = f.invalid.clear;
-    let rc_lost_set = f.rc.set;
     TriggerState {
         battery_critical_latched: f.battery.latched,
         energy_infeasible_latched: f.energy.latched,
-        gcs_clear_timer: gcs_clear_timer,
-        rc_clear_timer: rc_clear_timer,
-        gps_deg_set: gps_deg_set,
-        gps_deg_clear: gps_deg_clear,
-        gps_lost_set: gps_lost_set,
-        gps_lost_clear: gps_lost_clear,
-        ekf_set: ekf_set,
-        ekf_clear: ekf_clear,
-        fence_breach_set: fence_breach_set,
-        fence_breach_clear: fence_breach_clear,
-        alt_max_set: alt_max_set,
-        alt_max_clear: alt_max_clear,
-        alt_min_set: alt_min_set,
-        alt_min_clear: alt_min_clear,
-        stale_bat_clear: stale_bat_clear,
-        bat_warn_set: bat_warn_set,
-        bat_warn_clear: bat_warn_clear,
-        bat_low_set: bat_low_set,
-        bat_low_clear: bat_low_clear,
-        bat_crit_set: bat_crit_set,
-        energy_marg_set: energy_marg_set,
-        energy_marg_clear: energy_marg_clear,
-        energy_infeas_set: energy_infeas_set,
-        invalid_clear: invalid_clear,
+        gcs_clear_timer: f.gcs.clear_timer,
+        rc_clear_timer: f.rc.clear,
+        gps_deg_set: f.gps.degraded.set,
+        gps_deg_clear: f.gps.degraded.clear,
+        gps_lost_set: f.gps.lost.set,
+        gps_lost_clear: f.gps.lost.clear,
+        ekf_set: f.ekf.set,
+        ekf_clear: f.ekf.clear,
+        fence_breach_set: f.fence.breach.set,
+        fence_breach_clear: f.fence.breach.clear,
+        alt_max_set: f.fence.alt_max.set,
+        alt_max_clear: f.fence.alt_max.clear,
+        alt_min_set: f.fence.alt_min.set,
+        alt_min_clear: f.fence.alt_min.clear,
+        stale_bat_clear: f.stale.clear,
+        bat_warn_set: f.battery.warn.set,
+        bat_warn_clear: f.battery.warn.clear,
+        bat_low_set: f.battery.low.set,
+        bat_low_clear: f.battery.low.clear,
+        bat_crit_set: f.battery.crit_set,
+        energy_marg_set: f.energy.marginal.set,
+        energy_marg_clear: f.energy.marginal.clear,
+        energy_infeas_set: f.energy.infeas_set,
+        invalid_clear: f.invalid.clear,
         invalid_active: f.invalid.active,
-        rc_lost_set: rc_lost_set,
+        rc_lost_set: f.rc.set,
         gcs_stage: f.gcs.stage,
         raised: kept,
     }
@@ -1018,9 +856,7 @@ impl TriggerState {
     pub fn default() -> Self
         ensures { result ≡ fresh_triggers }
     {
-        let t = Timer {
-            since_ms: OptionU32::None,
-        };
+        let t = Timer::clear();
         Self {
             battery_critical_latched: false,
             energy_infeasible_latched: false,
@@ -1064,33 +900,30 @@ impl TriggerState {
 
     // A clock fault yields ClockFault alone and moves no timer.
     pub fn update(
-        self,
-        t: Telemetry,
-        cfg: Config,
+        &self,
+        t: &Telemetry,
+        cfg: &Config,
         min_alt_m: f32,
         max_alt_m: f32,
-        place: OptionPlace,
-        margin: OptionF32,
+        place: Option<Place>,
+        margin: Option<f32>,
         invalid: bool,
         clock_fault: bool,
     ) -> Updated
-        ensures { result ≡ update wrapping self t cfg min_alt_m max_alt_m place margin invalid clock_fault }
+        ensures { result ≡ update wrapping self.now t.now cfg.now min_alt_m max_alt_m place margin invalid clock_fault }
     {
         if clock_fault {
-            let a = ActiveSet::new();
-            Updated {
-                triggers: self,
-                active: a.set(Reason::ClockFault, Action::Warn),
-            }
-        } else {
-            let before = self.raised;
-            let keeps = cfg.keeps_raised;
-            let f = all_families(self, t, cfg, min_alt_m, max_alt_m, place, margin, invalid);
-            let on = raised_of(keeps, before, f);
-            Updated {
-                triggers: next_triggers(kept_raised(keeps, on), f),
-                active: requests(keeps, on, f),
-            }
+            return Updated {
+                triggers: *self,
+                active: ActiveSet::new().set(Reason::ClockFault, Action::Warn),
+            };
+        }
+        let keeps = cfg.keeps_raised;
+        let f = all_families(self, t, cfg, min_alt_m, max_alt_m, place, margin, invalid);
+        let on = raised_of(keeps, self.raised, &f);
+        Updated {
+            triggers: next_triggers(kept_raised(keeps, on), &f),
+            active: requests(keeps, on, &f),
         }
     }
 }

@@ -2,7 +2,9 @@
 use Prim.Native.Nat.{ℕ, zero, suc, ◌≤◌, zero-le}
 use mathlib.Core.Path.{◌≡◌, refl, sym, ap, subst, ◌∙◌}
 use mathlib.Core.Logic.{◌⊎◌, inl, inr, ⊎_elim}
-use mathlib.Core.Bool.{Bool, true, false, cond, true≢false}
+use mathlib.Core.Bool.{Bool, true, false, cond}
+use Rattle.std.specs.Prelude.{Option, Some, None}
+use Rattle.std.proofs.lemmas.Option.{none-some, same_Some}
 use mathlib.Core.List.Memᴰ
 use mathlib.Core.List.{List, [], ◌∷◌, Memᴰ}
 use native.Mathlib.Nat.{le_refl}
@@ -12,9 +14,8 @@ use lib.Dec.{ltb}
 use lib.ListN.{get_or}
 use Rattle.types.specs.declared.Reason.{Reason}
 use Rattle.types.specs.declared.Request.{Request}
-use Rattle.types.specs.declared.Slot.{Slot}
 use Rattle.types.specs.Numbers.{rank, display_priority}
-use Rattle.types.specs.ActiveSet.{request_of, higher_request, highest, nominal, requested_action, NotAbove, Highest}
+use Rattle.types.specs.ActiveSet.{higher_request, highest, nominal, requested_action, NotAbove, Highest}
 use Rattle.types.proofs.Slots.{rank_tells}
 
 -- ---- display priorities are all different: each tells its reason
@@ -70,77 +71,76 @@ both p q (inr a) (inr b) =
     λ i. record { reason = f i; action = k i }
 
 -- ---- one slot
--- h is not below b, nor below the slot's request; and it is one of the two
-abbrev Step : Request → Slot → Request → Type 0
-Step b s h = NotAbove b h × ((s.present ≡ true → NotAbove (request_of s) h) × ((h ≡ b) ⊎ ((s.present ≡ true) × (request_of s ≡ h))))
+-- h is not below b, nor below what the slot asks for; and it is one of the two
+abbrev Step : Request → Option Request → Request → Type 0
+Step b s h = NotAbove b h × (((q : Request) → s ≡ Some q → NotAbove q h) × ((h ≡ b) ⊎ (s ≡ Some h)))
 
-step : (b : Request) (s : Slot) → Step b s (higher_request b s)
+step : (b : Request) (s : Option Request) → Step b s (higher_request b s)
 unfolding higher_request
-step b s = go s.present (ltb rb rs) (ltb rs rb) (ltb pb ps) refl refl refl refl
+step b None = (same b, (λ q e. absurd (none-some q e), inl refl))
+step b (Some q) = go (ltb rb rq) (ltb rq rb) (ltb pb pq) refl refl refl
   where
     rb : ℕ
     rb = rank b.action
 
-    rs : ℕ
-    rs = rank s.action
+    rq : ℕ
+    rq = rank q.action
 
     pb : ℕ
     pb = display_priority b.reason
 
-    ps : ℕ
-    ps = display_priority s.reason
+    pq : ℕ
+    pq = display_priority q.reason
 
-    go : (p u v w : Bool) → s.present ≡ p → ltb rb rs ≡ u → ltb rs rb ≡ v → ltb pb ps ≡ w → Step b s (cond p (cond u (request_of s) (cond v b (cond w (request_of s) b))) b)
-    go false u v w hp hu hv hw = (same b, (λ t. absurd (true≢false (sym t ∙ hp)), inl refl))
-    go true true v w hp hu hv hw = (inl (ltb-true rb rs hu), (λ t. same (request_of s), inr (hp, refl)))
-    go true false true w hp hu hv hw = (same b, (λ t. inl (ltb-true rs rb hv), inl refl))
-    go true false false true hp hu hv hw =
-        let x = ltb-false rb rs hu in let y = ltb-false rs rb hv in let z = ltb-true pb ps hw in
-        (inr (omega arith, omega arith), (λ t. same (request_of s), inr (hp, refl)))
-    go true false false false hp hu hv hw =
-        let x = ltb-false rb rs hu in let y = ltb-false rs rb hv in let z = ltb-false pb ps hw in
-        (same b, (λ t. inr (omega arith, omega arith), inl refl))
+    -- what holds of q holds of what the slot asks for
+    of : (h : Request) → NotAbove q h → (p : Request) → Some q ≡ Some p → NotAbove p h
+    of h n p e = subst (λ (x : Request). NotAbove x h) (same_Some q p e) n
+
+    go : (u v w : Bool) → ltb rb rq ≡ u → ltb rq rb ≡ v → ltb pb pq ≡ w → Step b (Some q) (cond u q (cond v b (cond w q b)))
+    go true v w hu hv hw = (inl (ltb-true rb rq hu), (of q (same q), inr refl))
+    go false true w hu hv hw = (same b, (of b (inl (ltb-true rq rb hv)), inl refl))
+    go false false true hu hv hw =
+        let x = ltb-false rb rq hu in let y = ltb-false rq rb hv in let z = ltb-true pb pq hw in
+        (inr (omega arith, omega arith), (of q (same q), inr refl))
+    go false false false hu hv hw =
+        let x = ltb-false rb rq hu in let y = ltb-false rq rb hv in let z = ltb-false pb pq hw in
+        (same b, (of b (inr (omega arith, omega arith)), inl refl))
 
 -- ---- all slots
-not_below : (b : Request) (l : List Slot) → NotAbove b (highest b l)
+not_below : (b : Request) (l : List (Option Request)) → NotAbove b (highest b l)
 not_below b [] = same b
 not_below b (s ∷ l) = trans b (higher_request b s) (highest (higher_request b s) l) (step b s).0 (not_below (higher_request b s) l)
 
-pub none_above : (b : Request) (l : List Slot) (s : Slot) → Memᴰ s l → s.present ≡ true → NotAbove (request_of s) (highest b l)
-none_above b [] s m t = absurd (Memᴰ.not-nil m)
-none_above b (x ∷ l) s m t =
+pub none_above : (b : Request) (l : List (Option Request)) (q : Request) → Memᴰ (Some q) l → NotAbove q (highest b l)
+none_above b [] q m = absurd (Memᴰ.not-nil m)
+none_above b (x ∷ l) q m =
     ⊎_elim
-    (λ (e : s ≡ x).
-    subst (λ (y : Slot). NotAbove (request_of y) (highest (higher_request b x) l)) (sym e)
-    (trans (request_of x) (higher_request b x) (highest (higher_request b x) l) ((step b x).1.0 (ap (λ (y : Slot). y.present) (sym e) ∙ t)) (not_below (higher_request b x) l)))
-    (λ m'. none_above (higher_request b x) l s m' t)
+    (λ (e : Some q ≡ x). trans q (higher_request b x) (highest (higher_request b x) l) ((step b x).1.0 q (sym e)) (not_below (higher_request b x) l))
+    (λ m'. none_above (higher_request b x) l q m')
     (Memᴰ.cases_cons m)
 
-abbrev Asked : List Slot → Request → Type 0
-Asked l r = (s : Slot) × (Memᴰ s l × ((s.present ≡ true) × (request_of s ≡ r)))
-
--- the highest is what was there before, or what a present slot asks for
-from_where : (b : Request) (l : List Slot) → (highest b l ≡ b) ⊎ Asked l (highest b l)
+-- the highest is what was there before, or one of the requests
+from_where : (b : Request) (l : List (Option Request)) → (highest b l ≡ b) ⊎ Memᴰ (Some (highest b l)) l
 from_where b [] = inl refl
 from_where b (x ∷ l) = at (step b x).1.1 (from_where (higher_request b x) l)
   where
     r : Request
     r = highest (higher_request b x) l
 
-    at : (higher_request b x ≡ b) ⊎ ((x.present ≡ true) × (request_of x ≡ higher_request b x)) → (r ≡ higher_request b x) ⊎ Asked l r → (r ≡ b) ⊎ Asked (x ∷ l) r
-    at u (inr a) = inr (a.0, (Memᴰ.tail a.1.0, a.1.1))
+    at : (higher_request b x ≡ b) ⊎ (x ≡ Some (higher_request b x)) → (r ≡ higher_request b x) ⊎ Memᴰ (Some r) l → (r ≡ b) ⊎ Memᴰ (Some r) (x ∷ l)
+    at u (inr m) = inr (Memᴰ.tail m)
     at (inl e) (inl f) = inl (f ∙ e)
-    at (inr e) (inl f) = inr (x, (Memᴰ.head refl, (e.0, e.1 ∙ sym f)))
+    at (inr e) (inl f) = inr (Memᴰ.head (ap Some f ∙ sym e))
 
--- either a slot is present or none is
-any_present : (l : List Slot) → ((s : Slot) × (Memᴰ s l × (s.present ≡ true))) ⊎ ((s : Slot) → Memᴰ s l → s.present ≡ false)
-any_present [] = inr (λ s m. absurd (Memᴰ.not-nil m))
-any_present (x ∷ l) = at x.present refl (any_present l)
+-- either there is a request or there is none
+any_present : (l : List (Option Request)) → ((q : Request) × Memᴰ (Some q) l) ⊎ ((q : Request) → Memᴰ (Some q) l → ⊥)
+any_present [] = inr (λ q m. Memᴰ.not-nil m)
+any_present (None ∷ l) = at (any_present l)
   where
-    at : (p : Bool) → x.present ≡ p → ((s : Slot) × (Memᴰ s l × (s.present ≡ true))) ⊎ ((s : Slot) → Memᴰ s l → s.present ≡ false) → ((s : Slot) × (Memᴰ s (x ∷ l) × (s.present ≡ true))) ⊎ ((s : Slot) → Memᴰ s (x ∷ l) → s.present ≡ false)
-    at true e u = inl (x, (Memᴰ.head refl, e))
-    at false e (inl a) = inl (a.0, (Memᴰ.tail a.1.0, a.1.1))
-    at false e (inr n) = inr (λ s m. ⊎_elim (λ (f : s ≡ x). ap (λ (y : Slot). y.present) f ∙ e) (λ m'. n s m') (Memᴰ.cases_cons m))
+    at : ((q : Request) × Memᴰ (Some q) l) ⊎ ((q : Request) → Memᴰ (Some q) l → ⊥) → ((q : Request) × Memᴰ (Some q) (None ∷ l)) ⊎ ((q : Request) → Memᴰ (Some q) (None ∷ l) → ⊥)
+    at (inl a) = inl (a.0, Memᴰ.tail a.1)
+    at (inr n) = inr (λ q m. ⊎_elim (λ e. none-some q (sym e)) (λ m'. n q m') (Memᴰ.cases_cons m))
+any_present (Some p ∷ l) = inl (p, Memᴰ.head refl)
 
 -- nothing is below Nominal with None
 nominal_least : (p : Request) → NotAbove nominal p
@@ -151,41 +151,29 @@ nominal_least p = at (rank p.action) refl
     at (suc k) e = inl (omega arith)
 
 -- the theorem: what `requested_action` gives is the highest request
-pub requested_is_highest : (l : List Slot) → Highest l (requested_action l)
+pub requested_is_highest : (l : List (Option Request)) → Highest l (requested_action l)
 unfolding requested_action
 requested_is_highest l = record { among = at (from_where nominal l) (any_present l); above = none_above nominal l }
   where
     r : Request
     r = highest nominal l
 
-    at : (r ≡ nominal) ⊎ Asked l r → ((s : Slot) × (Memᴰ s l × (s.present ≡ true))) ⊎ ((s : Slot) → Memᴰ s l → s.present ≡ false) → Asked l r ⊎ (((s : Slot) → Memᴰ s l → s.present ≡ false) × (r ≡ nominal))
+    at : (r ≡ nominal) ⊎ Memᴰ (Some r) l → ((q : Request) × Memᴰ (Some q) l) ⊎ ((q : Request) → Memᴰ (Some q) l → ⊥) → Memᴰ (Some r) l ⊎ (((q : Request) → Memᴰ (Some q) l → ⊥) × (r ≡ nominal))
     at (inr a) u = inl a
     at (inl e) (inr n) = inr (n, e)
     at (inl e) (inl a) =
-        inl (
-          a.0,
-          (
-            a.1.0,
-            (
-              a.1.1,
-              both (request_of a.0) r (none_above nominal l a.0 a.1.0 a.1.1)
-                  (subst (λ (q : Request). NotAbove q (request_of a.0)) (sym e) (nominal_least (request_of a.0))),
-            ),
-          ),
-        )
+        let is : a.0 ≡ r = both a.0 r (none_above nominal l a.0 a.1) (subst (λ (q : Request). NotAbove q a.0) (sym e) (nominal_least a.0)) in
+        inl (subst (λ (q : Request). Memᴰ (Some q) l) is a.1)
 
 -- and it is the only one
-pub highest_only : (l : List Slot) (p q : Request) → Highest l p → Highest l q → p ≡ q
+pub highest_only : (l : List (Option Request)) (p q : Request) → Highest l p → Highest l q → p ≡ q
 highest_only l p q hp hq = at hp.among hq.among
   where
     Found : Request → Type 0
-    Found r = Asked l r ⊎ (((s : Slot) → Memᴰ s l → s.present ≡ false) × (r ≡ nominal))
-
-    under : (u v : Request) → Highest l v → Asked l u → NotAbove u v
-    under u v hv a = subst (λ (x : Request). NotAbove x v) a.1.1.1 (hv.above a.0 a.1.0 a.1.1.0)
+    Found r = Memᴰ (Some r) l ⊎ (((x : Request) → Memᴰ (Some x) l → ⊥) × (r ≡ nominal))
 
     at : Found p → Found q → p ≡ q
-    at (inl a) (inl b) = both p q (under p q hq a) (under q p hp b)
-    at (inl a) (inr b) = absurd (true≢false (sym a.1.1.0 ∙ b.0 a.0 a.1.0))
-    at (inr a) (inl b) = absurd (true≢false (sym b.1.1.0 ∙ a.0 b.0 b.1.0))
+    at (inl a) (inl b) = both p q (hq.above p a) (hp.above q b)
+    at (inl a) (inr b) = absurd (b.0 p a)
+    at (inr a) (inl b) = absurd (a.0 q b)
     at (inr a) (inr b) = a.1 ∙ sym b.1

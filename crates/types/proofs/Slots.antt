@@ -1,4 +1,5 @@
 -- A reason's slot is below nineteen and tells the reason; a turn of the loop over the slots. Assumes nothing.
+use Rattle.std.specs.Prelude.{Ok, Option}
 use Prim.Native.Nat.{ℕ, zero, suc, ◌+◌, ◌<◌, ◌≤◌, zero-le}
 use mathlib.Core.Path.{◌≡◌, refl, sym, ap, ◌∙◌}
 use mathlib.Core.List.{List}
@@ -8,16 +9,11 @@ use lib.Dec.{lit<}
 use lib.ListN.{length, get_or, drop}
 use lib.Seq.{drop-cons}
 use Rattle.types.specs.declared.GpsFix.{GpsFix}
-use Rattle.types.specs.declared.OptionGpsFix.{OptionGpsFix}
 use Rattle.types.specs.declared.LandedState.{LandedState}
-use Rattle.types.specs.declared.OptionLandedState.{OptionLandedState}
 use Rattle.types.specs.declared.Action.{Action}
-use Rattle.types.specs.declared.OptionAction.{OptionAction}
 use Rattle.types.specs.declared.Reason.{Reason}
-use Rattle.types.specs.declared.OptionReason.{OptionReason}
-use Rattle.types.specs.declared.Slot.{Slot}
 use Rattle.types.specs.declared.Request.{Request}
-use Rattle.types.specs.Numbers.{fix_number, fix_of_number, landed_number, landed_of_number, rank, action_of_rank, index, from_index}
+use Rattle.types.specs.Numbers.{fix_number, fix_of_number, landed_number, landed_of_number, rank, action_of_rank, index, reason_of_index}
 use Rattle.types.specs.ActiveSet.{highest, higher_request}
 
 -- a reason has a slot
@@ -42,42 +38,42 @@ index_lt Reason.BatteryCritical = lit< tt
 index_lt Reason.EnergyRtlMarginal = lit< tt
 index_lt Reason.EnergyRtlInfeasible = lit< tt
 
--- `from_index (index r)` is r
-pub from_index_lem : (r : Reason) → from_index (index r) ≡ OptionReason.Some r
-from_index_lem Reason.None = refl
-from_index_lem Reason.ClockFault = refl
-from_index_lem Reason.InvalidInput = refl
-from_index_lem Reason.StaleBattery = refl
-from_index_lem Reason.GcsLinkLost = refl
-from_index_lem Reason.RcLost = refl
-from_index_lem Reason.GpsDegraded = refl
-from_index_lem Reason.GpsLost = refl
-from_index_lem Reason.EkfUnhealthy = refl
-from_index_lem Reason.PositionInvalid = refl
-from_index_lem Reason.FenceApproach = refl
-from_index_lem Reason.FenceBreach = refl
-from_index_lem Reason.AltitudeMax = refl
-from_index_lem Reason.AltitudeMin = refl
-from_index_lem Reason.BatteryWarn = refl
-from_index_lem Reason.BatteryLow = refl
-from_index_lem Reason.BatteryCritical = refl
-from_index_lem Reason.EnergyRtlMarginal = refl
-from_index_lem Reason.EnergyRtlInfeasible = refl
+-- the case of a case's number is that case
+pub reason_of_index_lem : (r : Reason) → reason_of_index (index r) ≡ Ok r
+reason_of_index_lem Reason.None = refl
+reason_of_index_lem Reason.ClockFault = refl
+reason_of_index_lem Reason.InvalidInput = refl
+reason_of_index_lem Reason.StaleBattery = refl
+reason_of_index_lem Reason.GcsLinkLost = refl
+reason_of_index_lem Reason.RcLost = refl
+reason_of_index_lem Reason.GpsDegraded = refl
+reason_of_index_lem Reason.GpsLost = refl
+reason_of_index_lem Reason.EkfUnhealthy = refl
+reason_of_index_lem Reason.PositionInvalid = refl
+reason_of_index_lem Reason.FenceApproach = refl
+reason_of_index_lem Reason.FenceBreach = refl
+reason_of_index_lem Reason.AltitudeMax = refl
+reason_of_index_lem Reason.AltitudeMin = refl
+reason_of_index_lem Reason.BatteryWarn = refl
+reason_of_index_lem Reason.BatteryLow = refl
+reason_of_index_lem Reason.BatteryCritical = refl
+reason_of_index_lem Reason.EnergyRtlMarginal = refl
+reason_of_index_lem Reason.EnergyRtlInfeasible = refl
 
 -- the same for the other enums with a byte
-pub fix_of_number_lem : (r : GpsFix) → fix_of_number (fix_number r) ≡ OptionGpsFix.Some r
+pub fix_of_number_lem : (r : GpsFix) → fix_of_number (fix_number r) ≡ Ok r
 fix_of_number_lem GpsFix.None = refl
 fix_of_number_lem GpsFix.Fix2D = refl
 fix_of_number_lem GpsFix.Fix3D = refl
 
-pub landed_of_number_lem : (r : LandedState) → landed_of_number (landed_number r) ≡ OptionLandedState.Some r
+pub landed_of_number_lem : (r : LandedState) → landed_of_number (landed_number r) ≡ Ok r
 landed_of_number_lem LandedState.Undefined = refl
 landed_of_number_lem LandedState.OnGround = refl
 landed_of_number_lem LandedState.InAir = refl
 landed_of_number_lem LandedState.Takeoff = refl
 landed_of_number_lem LandedState.Landing = refl
 
-pub action_of_rank_lem : (r : Action) → action_of_rank (rank r) ≡ OptionAction.Some r
+pub action_of_rank_lem : (r : Action) → action_of_rank (rank r) ≡ Ok r
 action_of_rank_lem Action.Nominal = refl
 action_of_rank_lem Action.Warn = refl
 action_of_rank_lem Action.Hold = refl
@@ -86,10 +82,10 @@ action_of_rank_lem Action.Land = refl
 
 -- so two cases with the same number are the same
 pub index_tells : (p q : Reason) → index p ≡ index q → p ≡ q
-index_tells p q e = let f : OptionReason.Some p ≡ OptionReason.Some q = sym (from_index_lem p) ∙ ap from_index e ∙ from_index_lem q in cc
+index_tells p q e = let f : Ok p ≡ Ok q = sym (reason_of_index_lem p) ∙ ap reason_of_index e ∙ reason_of_index_lem q in cc
 
 pub rank_tells : (a b : Action) → rank a ≡ rank b → a ≡ b
-rank_tells a b e = let f : OptionAction.Some a ≡ OptionAction.Some b = sym (action_of_rank_lem a) ∙ ap action_of_rank e ∙ action_of_rank_lem b in cc
+rank_tells a b e = let f : Ok a ≡ Ok b = sym (action_of_rank_lem a) ∙ ap action_of_rank e ∙ action_of_rank_lem b in cc
 
 -- n is none of the numbers below k, as the last arm of a `match` tells it: it is k or more
 abbrev pub NoneBelow : ℕ → ℕ → Type 0
@@ -101,5 +97,5 @@ last_arm zero n h = zero-le
 last_arm (suc k) n h = let e = last_arm k n h.0 in let f = h.1 in omega arith
 
 -- taking the next slot in
-pub taken_in : (b r : Request) (l : List Slot) (i : ℕ) (d : Slot) → i < length l → r ≡ higher_request b (get_or l i d) → highest b (drop i l) ≡ highest r (drop (i + 1) l)
+pub taken_in : (b r : Request) (l : List (Option Request)) (i : ℕ) (d : Option Request) → i < length l → r ≡ higher_request b (get_or l i d) → highest b (drop i l) ≡ highest r (drop (i + 1) l)
 taken_in b r l i d h e = rw (e, add-one, drop-cons l i d h)

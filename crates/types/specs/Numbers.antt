@@ -1,13 +1,10 @@
 -- The numbers of the enums' cases. "enum a byte in declared order from 0". Assumes nothing.
-use Rattle.std.specs.Prelude.{ℕ, List, [], ◌∷◌, map, get_or}
+use Rattle.std.specs.Prelude.{ℕ, List, [], ◌∷◌, Result, Ok, Err, slice_get, ok_or}
 use Rattle.types.specs.declared.GpsFix.{GpsFix}
-use Rattle.types.specs.declared.OptionGpsFix.{OptionGpsFix}
 use Rattle.types.specs.declared.LandedState.{LandedState}
-use Rattle.types.specs.declared.OptionLandedState.{OptionLandedState}
 use Rattle.types.specs.declared.Action.{Action}
-use Rattle.types.specs.declared.OptionAction.{OptionAction}
 use Rattle.types.specs.declared.Reason.{Reason}
-use Rattle.types.specs.declared.OptionReason.{OptionReason}
+use Rattle.types.specs.declared.UnknownNumber.{UnknownNumber}
 
 abbrev pub fix_number : GpsFix → ℕ
 fix_number GpsFix.None = 0
@@ -18,9 +15,9 @@ fix_number GpsFix.Fix3D = 2
 abbrev pub fixes : List GpsFix
 fixes = GpsFix.None ∷ GpsFix.Fix2D ∷ GpsFix.Fix3D ∷ []
 
--- the case with a number, or none
-abbrev pub fix_of_number : ℕ → OptionGpsFix
-fix_of_number n = get_or (map OptionGpsFix.Some fixes) n OptionGpsFix.None
+-- the case with a number, where one has it
+abbrev pub fix_of_number : ℕ → Result GpsFix UnknownNumber
+fix_of_number n = ok_or (slice_get fixes n) (record {})
 
 abbrev pub landed_number : LandedState → ℕ
 landed_number LandedState.Undefined = 0
@@ -33,9 +30,9 @@ landed_number LandedState.Landing = 4
 abbrev pub landed_states : List LandedState
 landed_states = LandedState.Undefined ∷ LandedState.OnGround ∷ LandedState.InAir ∷ LandedState.Takeoff ∷ LandedState.Landing ∷ []
 
--- the case with a number, or none
-abbrev pub landed_of_number : ℕ → OptionLandedState
-landed_of_number n = get_or (map OptionLandedState.Some landed_states) n OptionLandedState.None
+-- the case with a number, where one has it
+abbrev pub landed_of_number : ℕ → Result LandedState UnknownNumber
+landed_of_number n = ok_or (slice_get landed_states n) (record {})
 
 -- an action's rank, which is also its place in declared order
 abbrev pub rank : Action → ℕ
@@ -49,9 +46,9 @@ rank Action.Land = 4
 abbrev pub actions : List Action
 actions = Action.Nominal ∷ Action.Warn ∷ Action.Hold ∷ Action.ReturnToLaunch ∷ Action.Land ∷ []
 
--- the action of a rank, or none
-abbrev pub action_of_rank : ℕ → OptionAction
-action_of_rank n = get_or (map OptionAction.Some actions) n OptionAction.None
+-- the action of a rank, where one has it
+abbrev pub action_of_rank : ℕ → Result Action UnknownNumber
+action_of_rank n = ok_or (slice_get actions n) (record {})
 
 -- a reason's slot, which is also its place in declared order
 abbrev pub index : Reason → ℕ
@@ -79,9 +76,9 @@ index Reason.EnergyRtlInfeasible = 18
 abbrev pub reasons : List Reason
 reasons = Reason.None ∷ Reason.ClockFault ∷ Reason.InvalidInput ∷ Reason.StaleBattery ∷ Reason.GcsLinkLost ∷ Reason.RcLost ∷ Reason.GpsDegraded ∷ Reason.GpsLost ∷ Reason.EkfUnhealthy ∷ Reason.PositionInvalid ∷ Reason.FenceApproach ∷ Reason.FenceBreach ∷ Reason.AltitudeMax ∷ Reason.AltitudeMin ∷ Reason.BatteryWarn ∷ Reason.BatteryLow ∷ Reason.BatteryCritical ∷ Reason.EnergyRtlMarginal ∷ Reason.EnergyRtlInfeasible ∷ []
 
--- the reason of a slot, or none
-abbrev pub from_index : ℕ → OptionReason
-from_index n = get_or (map OptionReason.Some reasons) n OptionReason.None
+-- the reason of a slot, where one has it
+abbrev pub reason_of_index : ℕ → Result Reason UnknownNumber
+reason_of_index n = ok_or (slice_get reasons n) (record {})
 
 -- "highest rank, then highest display_priority"
 abbrev pub display_priority : Reason → ℕ

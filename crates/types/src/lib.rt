@@ -1,10 +1,10 @@
-// The Rust's types.rs: readings, requests and decisions. Option<T> is one enum for each T.
+// The Rust's types.rs: readings, requests and decisions.
 #![tactic(auto)]
 
-ghost use Rattle.std.specs.Prelude.{◌≡◌};
+ghost use Rattle.std.specs.Prelude.{◌≡◌, ℕ};
 ghost use Rattle.types.specs.Vec3.{alt_m, horizontal_dist_home};
-ghost use Rattle.types.specs.Numbers.{fix_number, fix_of_number, landed_number, landed_of_number, rank, action_of_rank, index, from_index, display_priority};
-ghost use Rattle.types.specs.ActiveSet.{no_request, higher_request, empty_set, set_request, clear_request, requested_action, Highest};
+ghost use Rattle.types.specs.Numbers.{fix_number, fix_of_number, landed_number, landed_of_number, rank, action_of_rank, index, reason_of_index, display_priority};
+ghost use Rattle.types.specs.ActiveSet.{higher_request, empty_set, set_request, clear_request, requested_action, Highest};
 
 pub const MAX_FENCE_VERTS: usize = 16;
 
@@ -37,82 +37,68 @@ impl Vec3 {
     }
 }
 
-// Option<u8>, Option<u32>, Option<f32>, Option<Point2>, Option<Vec3>.
+// A reading with the time at which it was taken.
 #[derive(Clone, Copy)]
-pub enum OptionU8 {
-    None,
-    Some(u8),
+pub struct Stamped<T> {
+    pub t_ms: u32,
+    pub value: T,
 }
 
-#[derive(Clone, Copy)]
-pub enum OptionU32 {
-    None,
-    Some(u32),
+// What was taken at a time.
+pub trait Timed {
+    ghost stamp: { Self → ℕ };
+
+    fn t_ms(&self) -> u32
+        ensures { result ≡ stamp self.now };
 }
 
-#[derive(Clone, Copy)]
-pub enum OptionF32 {
-    None,
-    Some(f32),
+impl<T> Timed for Stamped<T> {
+    ghost stamp = { λ x. x.t_ms };
+
+    fn t_ms(&self) -> u32 {
+        self.t_ms
+    }
 }
 
-#[derive(Clone, Copy)]
-pub enum OptionPoint2 {
-    None,
-    Some(Point2),
+impl Timed for PositionSample {
+    ghost stamp = { λ x. x.t_ms };
+
+    fn t_ms(&self) -> u32 {
+        self.t_ms
+    }
 }
 
-#[derive(Clone, Copy)]
-pub enum OptionVec3 {
-    None,
-    Some(Vec3),
+impl Timed for GpsSample {
+    ghost stamp = { λ x. x.t_ms };
+
+    fn t_ms(&self) -> u32 {
+        self.t_ms
+    }
 }
 
-// Option<Stamped<f32>>, Option<Stamped<bool>>: a present reading has its stamp and its value.
-#[derive(Clone, Copy)]
-pub enum OptionStampedF32 {
-    None,
-    Some { t_ms: u32, value: f32 },
+// A heartbeat is its own time.
+impl Timed for u32 {
+    ghost stamp = { λ x. x };
+
+    fn t_ms(&self) -> u32 {
+        *self
+    }
 }
 
-#[derive(Clone, Copy)]
-pub enum OptionStampedBool {
-    None,
-    Some { t_ms: u32, value: bool },
-}
-
-#[derive(Clone, Copy)]
+#[derive(Clone, Copy, PartialEq, Eq)]
 pub enum GpsFix {
     None,
     Fix2D,
     Fix3D,
 }
 
-#[derive(Clone, Copy)]
-pub enum OptionGpsFix {
-    None,
-    Some(GpsFix),
-}
-
-#[derive(Clone, Copy)]
+#[derive(Clone, Copy, PartialEq, Eq)]
 pub enum LandedState {
     Undefined,
     OnGround,
     InAir,
     Takeoff,
     Landing,
-}
-
-#[derive(Clone, Copy)]
-pub enum OptionLandedState {
-    None,
-    Some(LandedState),
-}
-
-#[derive(Clone, Copy)]
-pub enum OptionStampedLandedState {
-    None,
-    Some { t_ms: u32, value: LandedState },
 }
 
 #[derive(Clone, Copy)]
@@ -123,46 +109,34 @@ pub struct PositionSample {
 }
 
 #[derive(Clone, Copy)]
-pub enum OptionPositionSample {
-    None,
-    Some(PositionSample),
-}
-
-#[derive(Clone, Copy)]
 pub struct GpsSample {
     pub t_ms: u32,
     pub fix: GpsFix,
-    pub sats: OptionU8,
-    pub hdop: OptionF32,
-}
-
-#[derive(Clone, Copy)]
-pub enum OptionGpsSample {
-    None,
-    Some(GpsSample),
+    pub sats: Option<u8>,
+    pub hdop: Option<f32>,
 }
 
 #[derive(Clone, Copy)]
 pub struct BatteryInputs {
-    pub voltage_v: OptionStampedF32,
-    pub percent: OptionStampedF32,
-    pub remaining_wh: OptionStampedF32,
+    pub voltage_v: Option<Stamped<f32>>,
+    pub percent: Option<Stamped<f32>>,
+    pub remaining_wh: Option<Stamped<f32>>,
 }
 
 #[derive(Clone, Copy)]
 pub struct Telemetry {
     pub now_ms: u32,
-    pub position: OptionPositionSample,
-    pub gps: OptionGpsSample,
+    pub position: Option<PositionSample>,
+    pub gps: Option<GpsSample>,
     pub battery: BatteryInputs,
-    pub gcs_heartbeat_ms: OptionU32,
-    pub armed: OptionStampedBool,
-    pub landed: OptionStampedLandedState,
-    pub rc_ok: OptionStampedBool,
-    pub ekf_ok: OptionStampedBool,
+    pub gcs_heartbeat_ms: Option<u32>,
+    pub armed: Option<Stamped<bool>>,
+    pub landed: Option<Stamped<LandedState>>,
+    pub rc_ok: Option<Stamped<bool>>,
+    pub ekf_ok: Option<Stamped<bool>>,
 }
 
-#[derive(Clone, Copy)]
+#[derive(Clone, Copy, PartialEq, Eq)]
 pub enum Action {
     Nominal,
     Warn,
@@ -171,13 +145,7 @@ pub enum Action {
     Land,
 }
 
-#[derive(Clone, Copy)]
-pub enum OptionAction {
-    None,
-    Some(Action),
-}
-
-#[derive(Clone, Copy)]
+#[derive(Clone, Copy, PartialEq, Eq)]
 pub enum Reason {
     None,
     ClockFault,
@@ -202,60 +170,55 @@ pub enum Reason {
 
 pub const N_REASONS: usize = 19;
 
-#[derive(Clone, Copy)]
-pub enum OptionReason {
-    None,
-    Some(Reason),
-}
+// A byte that is no case's number.
+#[derive(Clone, Copy, PartialEq, Eq)]
+pub struct UnknownNumber;
 
-impl GpsFix {
-    // The byte that a frame has for it: its place in declared order.
-    pub fn number(self) -> u8
-        ensures { result ≡ fix_number self }
-    {
-        match self {
-            GpsFix::None => 0,
-            GpsFix::Fix2D => 1,
-            GpsFix::Fix3D => 2,
-        }
-    }
+// The byte that a frame has for a case: its place in declared order.
+impl From<GpsFix> for u8 {
+    ghost from_gives = { λ fix n. n ≡ fix_number fix };
 
-    pub fn from_number(n: u8) -> OptionGpsFix
-        ensures { result ≡ fix_of_number n }
-    {
-        match n {
-            0 => OptionGpsFix::Some(GpsFix::None),
-            1 => OptionGpsFix::Some(GpsFix::Fix2D),
-            2 => OptionGpsFix::Some(GpsFix::Fix3D),
-            _ => OptionGpsFix::None,
-        }
+    fn from(fix: GpsFix) -> u8 {
+        fix as u8
     }
 }
 
-impl LandedState {
-    // The byte that a frame has for it: its place in declared order.
-    pub fn number(self) -> u8
-        ensures { result ≡ landed_number self }
-    {
-        match self {
-            LandedState::Undefined => 0,
-            LandedState::OnGround => 1,
-            LandedState::InAir => 2,
-            LandedState::Takeoff => 3,
-            LandedState::Landing => 4,
+impl TryFrom<u8> for GpsFix {
+    type Error = UnknownNumber;
+
+    ghost try_from_gives = { λ n r. r ≡ fix_of_number n };
+
+    fn try_from(n: u8) -> Result<Self, UnknownNumber> {
+        match n {
+            0 => Ok(GpsFix::None),
+            1 => Ok(GpsFix::Fix2D),
+            2 => Ok(GpsFix::Fix3D),
+            _ => Err(UnknownNumber),
         }
     }
+}
 
-    pub fn from_number(n: u8) -> OptionLandedState
-        ensures { result ≡ landed_of_number n }
-    {
+impl From<LandedState> for u8 {
+    ghost from_gives = { λ landed n. n ≡ landed_number landed };
+
+    fn from(landed: LandedState) -> u8 {
+        landed as u8
+    }
+}
+
+impl TryFrom<u8> for LandedState {
+    type Error = UnknownNumber;
+
+    ghost try_from_gives = { λ n r. r ≡ landed_of_number n };
+
+    fn try_from(n: u8) -> Result<Self, UnknownNumber> {
         match n {
-            0 => OptionLandedState::Some(LandedState::Undefined),
-            1 => OptionLandedState::Some(LandedState::OnGround),
-            2 => OptionLandedState::Some(LandedState::InAir),
-            3 => OptionLandedState::Some(LandedState::Takeoff),
-            4 => OptionLandedState::Some(LandedState::Landing),
-            _ => OptionLandedState::None,
+            0 => Ok(LandedState::Undefined),
+            1 => Ok(LandedState::OnGround),
+            2 => Ok(LandedState::InAir),
+            3 => Ok(LandedState::Takeoff),
+            4 => Ok(LandedState::Landing),
+            _ => Err(UnknownNumber),
         }
     }
 }
@@ -265,82 +228,64 @@ impl Action {
     pub fn rank(self) -> u8
         ensures { result ≡ rank self }
     {
-        match self {
-            Action::Nominal => 0,
-            Action::Warn => 1,
-            Action::Hold => 2,
-            Action::ReturnToLaunch => 3,
-            Action::Land => 4,
+        self as u8
+    }
+}
+
+impl TryFrom<u8> for Action {
+    type Error = UnknownNumber;
+
+    ghost try_from_gives = { λ n r. r ≡ action_of_rank n };
+
+    fn try_from(n: u8) -> Result<Self, UnknownNumber> {
+        match n {
+            0 => Ok(Action::Nominal),
+            1 => Ok(Action::Warn),
+            2 => Ok(Action::Hold),
+            3 => Ok(Action::ReturnToLaunch),
+            4 => Ok(Action::Land),
+            _ => Err(UnknownNumber),
         }
     }
+}
 
-    pub fn from_rank(n: u8) -> OptionAction
-        ensures { result ≡ action_of_rank n }
-    {
+impl TryFrom<u8> for Reason {
+    type Error = UnknownNumber;
+
+    ghost try_from_gives = { λ n r. r ≡ reason_of_index n };
+
+    fn try_from(n: u8) -> Result<Self, UnknownNumber> {
         match n {
-            0 => OptionAction::Some(Action::Nominal),
-            1 => OptionAction::Some(Action::Warn),
-            2 => OptionAction::Some(Action::Hold),
-            3 => OptionAction::Some(Action::ReturnToLaunch),
-            4 => OptionAction::Some(Action::Land),
-            _ => OptionAction::None,
+            0 => Ok(Reason::None),
+            1 => Ok(Reason::ClockFault),
+            2 => Ok(Reason::InvalidInput),
+            3 => Ok(Reason::StaleBattery),
+            4 => Ok(Reason::GcsLinkLost),
+            5 => Ok(Reason::RcLost),
+            6 => Ok(Reason::GpsDegraded),
+            7 => Ok(Reason::GpsLost),
+            8 => Ok(Reason::EkfUnhealthy),
+            9 => Ok(Reason::PositionInvalid),
+            10 => Ok(Reason::FenceApproach),
+            11 => Ok(Reason::FenceBreach),
+            12 => Ok(Reason::AltitudeMax),
+            13 => Ok(Reason::AltitudeMin),
+            14 => Ok(Reason::BatteryWarn),
+            15 => Ok(Reason::BatteryLow),
+            16 => Ok(Reason::BatteryCritical),
+            17 => Ok(Reason::EnergyRtlMarginal),
+            18 => Ok(Reason::EnergyRtlInfeasible),
+            _ => Err(UnknownNumber),
         }
     }
 }
 
 impl Reason {
-    // Also the byte that a frame has for it: its place in declared order.
+    // Its slot. Also the byte that a frame has for it: its place in declared order.
     pub fn index(self) -> usize
         ensures { result ≡ index self }
     {
-        match self {
-            Reason::None => 0,
-            Reason::ClockFault => 1,
-            Reason::InvalidInput => 2,
-            Reason::StaleBattery => 3,
-            Reason::GcsLinkLost => 4,
-            Reason::RcLost => 5,
-            Reason::GpsDegraded => 6,
-            Reason::GpsLost => 7,
-            Reason::EkfUnhealthy => 8,
-            Reason::PositionInvalid => 9,
-            Reason::FenceApproach => 10,
-            Reason::FenceBreach => 11,
-            Reason::AltitudeMax => 12,
-            Reason::AltitudeMin => 13,
-            Reason::BatteryWarn => 14,
-            Reason::BatteryLow => 15,
-            Reason::BatteryCritical => 16,
-            Reason::EnergyRtlMarginal => 17,
-            Reason::EnergyRtlInfeasible => 18,
-        }
-    }
-
-    pub fn from_index(i: usize) -> OptionReason
-        ensures { result ≡ from_index i }
-    {
-        match i {
-            0 => OptionReason::Some(Reason::None),
-            1 => OptionReason::Some(Reason::ClockFault),
-            2 => OptionReason::Some(Reason::InvalidInput),
-            3 => OptionReason::Some(Reason::StaleBattery),
-            4 => OptionReason::Some(Reason::GcsLinkLost),
-            5 => OptionReason::Some(Reason::RcLost),
-            6 => OptionReason::Some(Reason::GpsDegraded),
-            7 => OptionReason::Some(Reason::GpsLost),
-            8 => OptionReason::Some(Reason::EkfUnhealthy),
-            9 => OptionReason::Some(Reason::PositionInvalid),
-            10 => OptionReason::Some(Reason::FenceApproach),
-            11 => OptionReason::Some(Reason::FenceBreach),
-            12 => OptionReason::Some(Reason::AltitudeMax),
-            13 => OptionReason::Some(Reason::AltitudeMin),
-            14 => OptionReason::Some(Reason::BatteryWarn),
-            15 => OptionReason::Some(Reason::BatteryLow),
-            16 => OptionReason::Some(Reason::BatteryCritical),
-            17 => OptionReason::Some(Reason::EnergyRtlMarginal),
-            18 => OptionReason::Some(Reason::EnergyRtlInfeasible),
-            _ => OptionReason::None,
-        }
+        self as usize
     }
 
     // Among requests of the winning rank the highest of these names the reason.
@@ -377,56 +322,28 @@ pub struct Request {
     pub action: Action,
 }
 
-// Option<Request>. Reason and action of an absent one are free; `no_request`, and so every set that a step gives, has None and Nominal.
-#[derive(Clone, Copy)]
-pub struct Slot {
-    pub present: bool,
-    pub reason: Reason,
-    pub action: Action,
-}
-
 #[derive(Clone, Copy)]
 pub struct ActiveSet {
-    pub reqs: [Slot; 19],
-}
-
-pub fn no_request() -> Slot
-    ensures { result ≡ no_request }
-{
-    Slot {
-        present: false,
-        reason: Reason::None,
-        action: Action::Nominal,
-    }
+    pub reqs: [Option<Request>; 19],
 }
 
 // The higher of the highest so far and a slot's request.
-fn higher_request(best: Request, slot: Slot) -> Request
+fn higher_request(best: Request, slot: Option<Request>) -> Request
     ensures { result ≡ higher_request best slot }
 {
-    if slot.present {
-        let a = slot.action;
-        let b = best.action;
-        let p = slot.reason;
-        let q = best.reason;
-        let ra = a.rank();
-        let rb = b.rank();
-        if rb < ra {
-            return Request {
-                reason: p,
-                action: a,
-            };
-        }
-        if ra < rb {
-            return best;
-        }
-        if q.display_priority() < p.display_priority() {
-            return Request {
-                reason: p,
-                action: a,
-            };
-        }
-        best
+    let Some(q) = slot else {
+        return best;
+    };
+    let new = q.action.rank();
+    let old = best.action.rank();
+    if old < new {
+        return q;
+    }
+    if new < old {
+        return best;
+    }
+    if best.reason.display_priority() < q.reason.display_priority() {
+        q
     } else {
         best
     }
@@ -436,62 +353,34 @@ impl ActiveSet {
     pub fn new() -> Self
         ensures { result ≡ empty_set }
     {
-        let s = no_request();
-        let a = [s; 19];
-        Self { reqs: a }
+        Self { reqs: [None; 19] }
     }
 
     pub fn set(mut self, reason: Reason, action: Action) -> Self
         ensures { result ≡ set_request self reason action }
     {
-        let i = reason.index();
-        let s = Slot {
-            present: true,
-            reason: reason,
-            action: action,
-        };
-        self.reqs[i] = s;
+        self.reqs[reason.index()] = Some(Request { reason, action });
         self
     }
 
     pub fn clear(mut self, reason: Reason) -> Self
         ensures { result ≡ clear_request self reason }
     {
-        let i = reason.index();
-        let s = no_request();
-        self.reqs[i] = s;
+        self.reqs[reason.index()] = None;
         self
     }
 
-    // Slot by slot and not by a loop: where each index is known, absent slots cost one test each.
     pub fn requested_action(self) -> Request
         ensures value { result ≡ requested_action self.reqs }
         ensures highest { Highest self.reqs result }
     {
-        let r = self.reqs;
         let mut best = Request {
             reason: Reason::None,
             action: Action::Nominal,
         };
-        best = higher_request(best, r[0]);
-        best = higher_request(best, r[1]);
-        best = higher_request(best, r[2]);
-        best = higher_request(best, r[3]);
-        best = higher_request(best, r[4]);
-        best = higher_request(best, r[5]);
-        best = higher_request(best, r[6]);
-        best = higher_request(best, r[7]);
-        best = higher_request(best, r[8]);
-        best = higher_request(best, r[9]);
-        best = higher_request(best, r[10]);
-        best = higher_request(best, r[11]);
-        best = higher_request(best, r[12]);
-        best = higher_request(best, r[13]);
-        best = higher_request(best, r[14]);
-        best = higher_request(best, r[15]);
-        best = higher_request(best, r[16]);
-        best = higher_request(best, r[17]);
-        best = higher_request(best, r[18]);
+        for slot in &self.reqs {
+            best = higher_request(best, *slot);
+        }
         best
     }
 }
@@ -501,8 +390,8 @@ pub struct EnergyEstimate {
     pub rtl_wh: f32,
     pub land_wh: f32,
     pub reserve_wh: f32,
-    pub remaining_wh: OptionF32,
-    pub margin_wh: OptionF32,
+    pub remaining_wh: Option<f32>,
+    pub margin_wh: Option<f32>,
     pub insufficient_for_landing: bool,
 }
 
@@ -515,6 +404,6 @@ pub struct Decision {
     pub position_valid: bool,
     pub clock_fault: bool,
     pub energy: EnergyEstimate,
-    pub fence_dist_m: OptionF32,
+    pub fence_dist_m: Option<f32>,
     pub disarm_eligible: bool,
 }

@@ -1,5 +1,5 @@
 -- Document 01, 'validate': "Bounds as in the Rust; stale readings are checked too." Assumes nothing.
-use Rattle.std.specs.Prelude.{Bool, true, cond, not, ◌&&◌, from_bits, Float}
+use Rattle.std.specs.Prelude.{Bool, true, cond, not, ◌&&◌, from_bits, Float, Option, Some, None}
 use Rattle.std.specs.Float.{binary32}
 use Rattle.std.specs.Float.Ieee.{neg, lt, le}
 use Rattle.float32.specs.Binary32.{add_f, mul_f, zero_f}
@@ -7,14 +7,11 @@ use Rattle.float32.specs.Sqrt.{square_root}
 use Rattle.float32.specs.Libm.{is_finite, fabs}
 use Rattle.types.specs.declared.Vec3.{Vec3}
 use Rattle.types.specs.declared.PositionSample.{PositionSample}
-use Rattle.types.specs.declared.OptionPositionSample.{OptionPositionSample}
 use Rattle.types.specs.declared.GpsSample.{GpsSample}
-use Rattle.types.specs.declared.OptionGpsSample.{OptionGpsSample}
-use Rattle.types.specs.declared.OptionF32.{OptionF32}
-use Rattle.types.specs.declared.OptionStampedF32.{OptionStampedF32}
 use Rattle.types.specs.declared.Telemetry.{Telemetry}
 use Rattle.types.specs.Vec3.{alt_m}
 use Rattle.validate.specs.declared.ValidatedTelemetry.{ValidatedTelemetry}
+use Rattle.types.specs.declared.Stamped.{Stamped}
 
 -- 100; 1.1; 2,000; 10,000 (proofs/Constants.antt)
 abbrev pub hundred : Float
@@ -46,9 +43,9 @@ unfoldable pub validate_position_sample : PositionSample → Bool
 validate_position_sample s = within_position s.pos && within_velocity s.vel
 
 -- a present hdop is finite and from 0 to 100
-abbrev pub validate_hdop : OptionF32 → Bool
-validate_hdop OptionF32.None = true
-validate_hdop (OptionF32.Some h) = is_finite h && not (lt h zero_f) && not (lt hundred h)
+abbrev pub validate_hdop : Option Float → Bool
+validate_hdop None = true
+validate_hdop (Some h) = is_finite h && not (lt h zero_f) && not (lt hundred h)
 
 unfoldable pub validate_gps : GpsSample → Bool
 validate_gps g = validate_hdop g.hdop
@@ -62,31 +59,25 @@ unfoldable pub validate_remaining : Float → Float → Bool
 validate_remaining r cap = is_finite r && le zero_f r && le r (mul_f cap overfull)
 
 -- an absent reading breaks no bound
-abbrev pub position_ok : OptionPositionSample → Bool
-position_ok OptionPositionSample.None = true
-position_ok (OptionPositionSample.Some s) = validate_position_sample s
+abbrev pub position_ok : Option PositionSample → Bool
+position_ok None = true
+position_ok (Some s) = validate_position_sample s
 
-abbrev pub gps_ok : OptionGpsSample → Bool
-gps_ok OptionGpsSample.None = true
-gps_ok (OptionGpsSample.Some g) = validate_gps g
+abbrev pub gps_ok : Option GpsSample → Bool
+gps_ok None = true
+gps_ok (Some g) = validate_gps g
 
-abbrev pub percent_ok : OptionStampedF32 → Bool
-percent_ok OptionStampedF32.None = true
-percent_ok (OptionStampedF32.Some t p) = validate_percent p
+abbrev pub percent_ok : Option (Stamped Float) → Bool
+percent_ok None = true
+percent_ok (Some r) = validate_percent r.value
 
-abbrev pub remaining_ok : OptionStampedF32 → Float → Bool
-remaining_ok OptionStampedF32.None cap = true
-remaining_ok (OptionStampedF32.Some t r) cap = validate_remaining r cap
+abbrev pub remaining_ok : Option (Stamped Float) → Float → Bool
+remaining_ok None cap = true
+remaining_ok (Some s) cap = validate_remaining s.value cap
 
 -- a reading out of bounds is taken as absent
-abbrev pub keep_position : Bool → OptionPositionSample → OptionPositionSample
-keep_position ok p = cond ok p OptionPositionSample.None
-
-abbrev pub keep_gps : Bool → OptionGpsSample → OptionGpsSample
-keep_gps ok g = cond ok g OptionGpsSample.None
-
-abbrev pub keep_stamped : Bool → OptionStampedF32 → OptionStampedF32
-keep_stamped ok x = cond ok x OptionStampedF32.None
+abbrev pub keep : {A : Type 0} → Bool → Option A → Option A
+keep ok x = cond ok x None
 
 -- each reading by itself; the input is invalid where one was out of bounds
 unfoldable pub validate_telemetry : Telemetry → Float → ValidatedTelemetry
@@ -100,13 +91,13 @@ validate_telemetry t cap =
       telemetry =
           record {
             now_ms = t.now_ms;
-            position = keep_position p t.position;
-            gps = keep_gps g t.gps;
+            position = keep p t.position;
+            gps = keep g t.gps;
             battery =
                 record {
-                  voltage_v = keep_stamped v t.battery.voltage_v;
-                  percent = keep_stamped c t.battery.percent;
-                  remaining_wh = keep_stamped r t.battery.remaining_wh;
+                  voltage_v = keep v t.battery.voltage_v;
+                  percent = keep c t.battery.percent;
+                  remaining_wh = keep r t.battery.remaining_wh;
                 };
             gcs_heartbeat_ms = t.gcs_heartbeat_ms;
             armed = t.armed;

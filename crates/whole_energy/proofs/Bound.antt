@@ -3,11 +3,10 @@ use Rattle.std.proofs.Common.{◌≡◌, ℕ, zero, suc, ◌+◌, ◌-◌, ◌*�
 use Rattle.whole_energy.specs.Energy.{leg, rounded_up, climb_energy, cruise_energy, descent_energy, cruise_divisor, remainder_of, exact_sum, total_of, EstimateExact, EstimateBound}
 use Rattle.whole_energy.specs.declared.Return.{Return}
 use Rattle.whole_energy.specs.Root.{whole_root}
-use Rattle.whole_energy.specs.Input.{i32_at, input_of, is_zero, speed_of_zero, return_of}
+use Rattle.whole_energy.specs.Input.{input_of, return_of}
 use Rattle.whole_energy.specs.Call.{CallBound}
 use Rattle.whole_energy.proofs.Root.{whole_root_is}
-use Rattle.whole_energy.proofs.Limits.{limits}
-use Rattle.whole_energy.proofs.Numbers.{neither, speed_above}
+use Rattle.whole_energy.proofs.Limits.{bounded}
 
 -- a quotient rounded up, times the divisor
 pub rounded_up_lem : (a d : ℕ) → 0 < d → (a ≤ rounded_up (leg a d) * d) × (rounded_up (leg a d) * d < a + d)
@@ -41,7 +40,7 @@ three a b c d e f p q r D E F x y z =
 exact : (x : Return) → 0 < x.speed_climb → 0 < cruise_divisor x → 0 < x.speed_descent → EstimateExact x
 unfolding remainder_of
 exact x d e f =
-    let r : whole_root x.«square» * whole_root x.«square» + (x.«square» - whole_root x.«square» * whole_root x.«square») ≡ x.«square» = omega (arith, (whole_root_is x.«square»).0) in
+    let r : whole_root x.square * whole_root x.square + (x.square - whole_root x.square * whole_root x.square) ≡ x.square = omega (arith, (whole_root_is x.square).0) in
     (r, (div-add-mod' _ _, mod-lt _ d), (div-add-mod' _ _, mod-lt _ e), (div-add-mod' _ _, mod-lt _ f))
 
 pub estimate_bound : EstimateBound
@@ -54,8 +53,6 @@ estimate_bound x d e f =
     (exact x d k f, b)
 
 pub call_bound : CallBound
-unfolding return_of speed_of_zero
 call_bound s e f =
-    let l = limits s e in
-    let z = neither (is_zero (i32_at s 40)) (is_zero (i32_at s 44)) (is_zero (i32_at s 48)) f in
-    estimate_bound (return_of (input_of s)) (speed_above 100000 (i32_at s 40) l.speed_climb z.0) (speed_above 100000 (i32_at s 44) l.speed_cruise z.1) (speed_above 100000 (i32_at s 48) l.speed_descent z.2)
+    let b = bounded (input_of s) e f in
+    estimate_bound (return_of (input_of s)) b.speed_climb.0 b.speed_cruise.0 b.speed_descent.0

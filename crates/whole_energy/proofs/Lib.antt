@@ -1,7 +1,5 @@
 -- The theorems of `whole_energy`, in Root and Bound, and what its proofs share.
 pub mod Root
 pub mod Bound
-mod Numbers
 mod Limits
-mod Bytes
 mod Sizes

@@ -1,5 +1,5 @@
 -- `whole_root n` is the largest number whose square is not above n, and the only one. Assumes nothing.
-use Rattle.std.proofs.Common.{◌≡◌, ℕ, zero, suc, ◌+◌, ◌-◌, ◌*◌, ◌/◌, ◌^◌, ◌<◌, ◌≤◌, Bool, true, false, cond, not, T, leb, sym, subst, lt_of_lt_of_le, lt_of_le_of_lt, add_assoc, mul_comm, add-mul, mul-le-mul, add_comm, le_antisymm, lt_of_not-le, zero-add, mul-add, not-le_of_lt, arith, leb→le}
+use Rattle.std.proofs.Common.{◌≡◌, ℕ, zero, suc, ◌+◌, ◌*◌, ◌<◌, ◌≤◌, Bool, true, false, cond, not, T, leb, lt_of_le_of_lt, add_assoc, mul_comm, add-mul, mul-le-mul, add_comm, le_antisymm, lt_of_not-le, mul-add, not-le_of_lt, arith, leb→le}
 use lib.Dec.{nleb→lt}
 use Rattle.whole_energy.specs.Root.{whole_root, WholeRoot}
 
@@ -25,29 +25,3 @@ whole_root_only n r h =
     let a : r < whole_root n + 1 = square_below r (whole_root n + 1) (lt_of_le_of_lt h.0 k.1) in
     let b : whole_root n < r + 1 = square_below (whole_root n) (r + 1) (lt_of_le_of_lt k.0 h.1) in
     le_antisymm (omega arith) (omega arith)
-
--- ---- `whole_root`: the root lies from r up and below r + w
-abbrev pub Between : ℕ → ℕ → ℕ → Type 0
-Between n r w = (r * r ≤ n) × (n < (r + w) * (r + w)) × (r + w ≤ 2 ^ 32) × (1 ≤ w)
-
-pub begun : (n k w : ℕ) → w ≡ k → n < k * k → k ≤ 2 ^ 32 → 1 ≤ k → Between n 0 w
-begun n k w e h l o = subst (λ (x : ℕ). Between n 0 x) (sym e) (omega arith, subst (λ (x : ℕ). n < x * x) (sym (zero-add k)) h, omega arith, o)
-
-pub square_fits : (c : ℕ) → c < 2 ^ 32 → c * c < 2 ^ 64
-square_fits c h = let k : c ≤ 4294967295 = omega arith in omega (arith, mul-le-mul k k)
-
-pub upper : (n r w s : ℕ) → 1 < w → Between n r w → s ≡ r + w / 2 → (r + w / 2) * (r + w / 2) ≤ n → Between n s (w - w / 2)
-upper n r w s o b e h =
-    let k : s + (w - w / 2) ≡ r + w = omega arith in
-    (subst (λ (x : ℕ). x * x ≤ n) (sym e) h, subst (λ (x : ℕ). n < x * x) (sym k) b.1, omega arith, omega arith)
-
-pub lower : (n r w s : ℕ) → 1 < w → Between n r w → s ≡ r → n < (r + w / 2) * (r + w / 2) → Between n s (w - w / 2)
-lower n r w s o b e h =
-    let k : r + w / 2 ≤ s + (w - w / 2) = omega arith in
-    (subst (λ (x : ℕ). x * x ≤ n) (sym e) b.0, lt_of_lt_of_le h (mul-le-mul k k), omega arith, omega arith)
-
-pub found : (n r w : ℕ) → w ≤ 1 → Between n r w → (r ≡ whole_root n) × WholeRoot n r
-found n r w o b =
-    let e : w ≡ 1 = omega arith in
-    let k : WholeRoot n r = (b.0, subst (λ (x : ℕ). n < (r + x) * (r + x)) e b.1) in
-    (whole_root_only n r k, k)

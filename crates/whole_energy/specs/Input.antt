@@ -1,32 +1,14 @@
 -- The thirteen numbers of the estimate, and their limits. Document 02, L8: "an estimate in millimetres, millimetres a second, milliwatts and millijoules, with wind in
 -- thousandths". Assumes nothing.
-use Rattle.std.specs.Prelude.{ℕ, ◌+◌, ◌-◌, ◌*◌, ◌^◌, Bool, true, false, cond, ◌&&◌, ◌||◌, List, [], ◌∷◌, ℤ, pos, negsuc, ◌-ℤ◌, neg_ℤ, ◌==◌, int_le, nat_lt, unsigned_abs}
+use Rattle.std.specs.Prelude.{ℕ, ◌+◌, ◌*◌, Bool, false, ◌&&◌, ◌||◌, List, ℤ, pos, negsuc, ◌-ℤ◌, neg_ℤ, ◌==◌, int_le, unsigned_abs}
+use Rattle.std.specs.Int.{w32, cast_signed, int_max}
 use Rattle.wire.specs.Fields.{u32_at}
-use Rattle.wire.specs.Frame.{all_true}
+use Rattle.whole_energy.specs.declared.Input.{Input}
 use Rattle.whole_energy.specs.declared.Return.{Return}
 
--- the number whose 32 bits in two's complement are those of n
-unfoldable pub signed : ℕ → ℤ
-signed n = cond (nat_lt n (2 ^ 31)) (pos n) (negsuc (2 ^ 32 - 1 - n))
-
--- the number in the four bytes from i
+-- the number in the four bytes from i, in two's complement
 abbrev pub i32_at : List ℕ → ℕ → ℤ
-i32_at s i = signed (u32_at s i)
-
-pub record Input : Type 0 where
-  pub north : ℤ
-  pub east : ℤ
-  pub altitude : ℤ
-  pub home_north : ℤ
-  pub home_east : ℤ
-  pub return_altitude : ℤ
-  pub power_climb : ℤ
-  pub power_cruise : ℤ
-  pub power_descent : ℤ
-  pub wind : ℤ
-  pub speed_climb : ℤ
-  pub speed_cruise : ℤ
-  pub speed_descent : ℤ
+i32_at s i = cast_signed w32 (u32_at s i)
 
 -- the numbers stand in this order, four bytes each
 abbrev pub input_of : List ℕ → Input
@@ -53,25 +35,21 @@ within low high z = int_le low z && int_le z high
 
 -- "North and east of position and home lie within ±10,000,000, altitude from −100,000 to 2,000,000, return altitude from 0 to 2,000,000, powers from 0 to 10,000,000, wind from
 -- 0 to 10,000, speeds from 0 to 100,000."
-abbrev pub limit_tests : Input → List Bool
-limit_tests i =
-    within (neg_ℤ (pos 10000000)) (pos 10000000) i.north
-    ∷ within (neg_ℤ (pos 10000000)) (pos 10000000) i.east
-    ∷ within (neg_ℤ (pos 10000000)) (pos 10000000) i.home_north
-    ∷ within (neg_ℤ (pos 10000000)) (pos 10000000) i.home_east
-    ∷ within (neg_ℤ (pos 100000)) (pos 2000000) i.altitude
-    ∷ within (pos 0) (pos 2000000) i.return_altitude
-    ∷ within (pos 0) (pos 10000000) i.power_climb
-    ∷ within (pos 0) (pos 10000000) i.power_cruise
-    ∷ within (pos 0) (pos 10000000) i.power_descent
-    ∷ within (pos 0) (pos 10000) i.wind
-    ∷ within (pos 0) (pos 100000) i.speed_climb
-    ∷ within (pos 0) (pos 100000) i.speed_cruise
-    ∷ within (pos 0) (pos 100000) i.speed_descent
-    ∷ []
-
 unfoldable pub within_limits : Input → Bool
-within_limits i = all_true true (limit_tests i)
+within_limits i =
+    within (neg_ℤ (pos 10000000)) (pos 10000000) i.north
+    && within (neg_ℤ (pos 10000000)) (pos 10000000) i.east
+    && within (neg_ℤ (pos 10000000)) (pos 10000000) i.home_north
+    && within (neg_ℤ (pos 10000000)) (pos 10000000) i.home_east
+    && within (neg_ℤ (pos 100000)) (pos 2000000) i.altitude
+    && within (pos 0) (pos 2000000) i.return_altitude
+    && within (pos 0) (pos 10000000) i.power_climb
+    && within (pos 0) (pos 10000000) i.power_cruise
+    && within (pos 0) (pos 10000000) i.power_descent
+    && within (pos 0) (pos 10000) i.wind
+    && within (pos 0) (pos 100000) i.speed_climb
+    && within (pos 0) (pos 100000) i.speed_cruise
+    && within (pos 0) (pos 100000) i.speed_descent
 
 abbrev pub is_zero : ℤ → Bool
 is_zero (pos n) = n == 0
@@ -79,15 +57,12 @@ is_zero (negsuc n) = false
 
 -- ".. 37 for a speed of 0"
 unfoldable pub speed_of_zero : Input → Bool
-speed_of_zero i = (is_zero i.speed_climb || is_zero i.speed_cruise) || is_zero i.speed_descent
+speed_of_zero i = is_zero i.speed_climb || is_zero i.speed_cruise || is_zero i.speed_descent
 
 -- "a height below 0 counting as 0". The other numbers that are used so are never below it.
 abbrev pub from_zero : ℤ → ℕ
 from_zero (pos n) = n
 from_zero (negsuc n) = 0
-
-abbrev pub larger : ℤ → ℤ → ℤ
-larger a b = cond (int_le a b) b a
 
 abbrev pub squared : ℤ → ℕ
 squared z = unsigned_abs z * unsigned_abs z
@@ -97,13 +72,13 @@ squared z = unsigned_abs z * unsigned_abs z
 unfoldable pub return_of : Input → Return
 return_of i =
     record {
-      «square» = squared (i.north -ℤ i.home_north) + squared (i.east -ℤ i.home_east);
-      «climb» = from_zero (i.return_altitude -ℤ i.altitude);
-      «descent» = from_zero (larger i.altitude i.return_altitude);
+      square = squared (i.north -ℤ i.home_north) + squared (i.east -ℤ i.home_east);
+      climb = from_zero (i.return_altitude -ℤ i.altitude);
+      descent = from_zero (int_max i.altitude i.return_altitude);
       power_climb = from_zero i.power_climb;
       power_cruise = from_zero i.power_cruise;
       power_descent = from_zero i.power_descent;
-      «wind» = from_zero i.wind;
+      wind = from_zero i.wind;
       speed_climb = from_zero i.speed_climb;
       speed_cruise = from_zero i.speed_cruise;
       speed_descent = from_zero i.speed_descent;

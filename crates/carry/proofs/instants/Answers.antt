@@ -1,6 +1,6 @@
 -- `carry::instants` meets its contract: instant by instant, by what each call ensures. Assumes nothing.
+use Rattle.std.specs.Prelude.{Option}
 use Rattle.std.proofs.Common.{◌≡◌, ℕ, ◌-◌, cond, List, [], ◌∷◌, sym, ◌∙◌}
-use Rattle.types.specs.declared.OptionU32.{OptionU32}
 use Rattle.time.specs.Time.{wrapping, wrapping_sub, age, at_most}
 use Rattle.wire.specs.Fields.{u32_at}
 use Rattle.options.specs.Options.{option_u32_at}
@@ -12,11 +12,11 @@ use Rattle.carry.proofs.Stamp.{stamp}
 use Rattle.carry.proofs.instants.Goals as goal
 
 module _ (old : List ℕ) (t : ℕ) where
-  abbrev from : ℕ → OptionU32 → ℕ
+  abbrev from : ℕ → Option ℕ → ℕ
   from last o = t - wrapping_sub last (own o)
 
   -- the row by the stored sample's stamp and the last sound reading
-  abbrev row : OptionU32 → ℕ → List ℕ
+  abbrev row : Option ℕ → ℕ → List ℕ
   row stored last =
       from last (option_u32_at old 6) ∷
       from last (option_u32_at old 11) ∷
@@ -50,7 +50,7 @@ module _ (old : List ℕ) (t : ℕ) where
       cond (at_most (age wrapping last (u32_at old 180)) t) (t - wrapping_sub last (u32_at old 180)) t ∷
       []
 
-  row_is : {stored stamped : OptionU32} {given last : ℕ} (r : List ℕ) → stored ≡ stamped → given ≡ last → r ≡ row stored given → r ≡ row stamped last
+  row_is : {stored stamped : Option ℕ} {given last : ℕ} (r : List ℕ) → stored ≡ stamped → given ≡ last → r ≡ row stored given → r ≡ row stamped last
   row_is r e f h = h ∙ (λ i. row (e i) (f i))
 
 pub returns : goal.returns

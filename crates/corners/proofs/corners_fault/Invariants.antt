@@ -2,7 +2,8 @@ use mathlib.Core.Path.{◌≡◌}
 use mathlib.Core.List.{foldl}
 use Prim.Native.Nat.{◌≤◌, ◌-◌}
 use lib.ListN.{take, drop}
-use Rattle.corners.specs.Acceptance.{result_and, first_fault, corner_fault}
+use Rattle.std.specs.Result.{result_and}
+use Rattle.corners.specs.Acceptance.{first_fault, corner_fault}
 use Rattle.corners.proofs.corners_fault.Given as goal
 
 abbrev pub invariant-loop-i : goal.invariant-loop-i

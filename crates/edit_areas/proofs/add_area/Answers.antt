@@ -69,13 +69,13 @@ returns-then-refusal-ne0 c =
     record { value = all.0; output_after = all.1 }
 
 pub slice_bounds-put_frame-count : goal.slice_bounds-put_frame-count
-slice_bounds-put_frame-count c = omega (arith, within c)
+slice_bounds-put_frame-count c = omega (arith, within (goal.at.slice_bounds-put_frame-count c).After-smaller-from)
 
 pub slice_bounds-put_frame-start : goal.slice_bounds-put_frame-start
-slice_bounds-put_frame-start c = omega (arith, within c)
+slice_bounds-put_frame-start c = omega (arith, within (goal.at.slice_bounds-put_frame-start c).After-smaller-from)
 
 pub slice_bounds-put_frame-end : goal.slice_bounds-put_frame-end
-slice_bounds-put_frame-end c = omega (arith, within c)
+slice_bounds-put_frame-end c = omega (arith, within (goal.at.slice_bounds-put_frame-end c).After-smaller-from)
 
 pub slice_bounds-put_frame-count-2 : goal.slice_bounds-put_frame-count-2
 slice_bounds-put_frame-count-2 c = omega (arith, long (goal.at.slice_bounds-put_frame-count-2 c).After-wrong_number-wrong)

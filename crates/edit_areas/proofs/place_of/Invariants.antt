@@ -1,8 +1,7 @@
+use Prim.Native.Nat.{◌-◌}
+use Rattle.wire.specs.Fields.{u8_at}
 use Rattle.edit_areas.proofs.Cuts.{Reached}
 use Rattle.edit_areas.proofs.place_of.Given as goal
 
-abbrev pub invariant-loop-left : goal.invariant-loop-left
-invariant-loop-left l = Reached l.s l.number l.left l.at
-
-abbrev pub decreases-loop-left : goal.decreases-loop-left
-decreases-loop-left l = l.left
+abbrev pub invariant-loop-before : goal.invariant-loop-before
+invariant-loop-before l = Reached l.s l.number (u8_at l.s 4 - l._before) l.at

@@ -2,6 +2,7 @@
 use Prim.Native.Nat.{◌+◌, ◌≤◌}
 use mathlib.Core.Path.{◌≡◌, ◌∙◌, sym, ap, refl}
 use mathlib.Core.Bool.{true}
+use Rattle.std.proofs.lemmas.Bool.{not-true, not-false}
 use native.Mathlib.Omega.{arith}
 use lib.ListN.{length}
 use Rattle.wire.specs.Fields.{u8_at}
@@ -11,22 +12,22 @@ use Rattle.edit_areas.specs.declared.Place.{Place}
 use Rattle.edit_areas.specs.Cut.{place_of}
 use Rattle.edit_areas.proofs.Removes.{remove_declined, remove_refused, place_within, remove_within, some_held, two_small, remove_written}
 use Rattle.edit_areas.proofs.remove_area.Goals as goal
-use Rattle.edit_areas.proofs.remove_area.Goals.{After-body_size, Else-fault-ne0, Then-held}
+use Rattle.edit_areas.proofs.remove_area.Goals.{After-body_size, Else-fault-ne0, Else-not-place}
 
 -- the frame is not refused
 sound : (c : Else-fault-ne0) → areas_fault c.args.areas.now ≡ 0
 sound c = sym c.areas_fault-fault.ensures ∙ c.if-fault-ne0.false
 
 -- an area of that number is held
-has : (c : Then-held) → (place_of c.args.areas.now c.args.number).held ≡ true
-has c = sym (ap (λ (x : Place). x.held) c.place_of-place.ensures) ∙ c.if-held.true
+has : (c : Else-not-place) → (place_of c.args.areas.now c.args.number).held ≡ true
+has c = sym (ap (λ (x : Place). x.held) c.place_of-place.ensures) ∙ not-false c.place_of-place.result.held c.if-not-place.false
 
 -- the cut is behind the head, and its body within the frame
 within : (c : After-body_size) → (5 ≤ c.place_of-place.result.at) × (c.place_of-place.result.at + c.body_size.result ≤ length c.args.areas.now)
 within c =
     let a = c.args in
     let p = goal.at.After-body_size c in
-    remove_within a.areas.now a.number a.output.now (sound p.Else-fault-ne0) (has p.Then-held) (u8_at a.areas.now 4) c.body_size.result c.place_of-place.result refl c.place_of-place.ensures c.body_size.ensures
+    remove_within a.areas.now a.number a.output.now (sound p.Else-fault-ne0) (has p.Else-not-place) (u8_at a.areas.now 4) c.body_size.result c.place_of-place.result refl c.place_of-place.ensures c.body_size.ensures
 
 pub returns-then-fault-ne0 : goal.returns-then-fault-ne0
 returns-then-fault-ne0 c =
@@ -50,7 +51,7 @@ slice_bounds-body_size-start c =
     omega (arith, place_within a.areas.now a.number a.output.now e c.place_of-place.result c.place_of-place.ensures)
 
 pub overflow_add-end : goal.overflow_add-end
-overflow_add-end c = omega (arith, within c)
+overflow_add-end c = omega (arith, within (goal.at.overflow_add-end c).After-body_size)
 
 pub slice_bounds-put_frame-count : goal.slice_bounds-put_frame-count
 slice_bounds-put_frame-count c = omega (arith, within (goal.at.slice_bounds-put_frame-count c).After-body_size)
@@ -61,38 +62,35 @@ slice_bounds-put_frame-start c = omega (arith, within (goal.at.slice_bounds-put_
 pub slice_bounds-put_frame-end : goal.slice_bounds-put_frame-end
 slice_bounds-put_frame-end c = omega (arith, within (goal.at.slice_bounds-put_frame-end c).After-body_size)
 
-pub slice_bounds-put_frame-end-then-held : goal.slice_bounds-put_frame-end-then-held
-slice_bounds-put_frame-end-then-held c = omega (arith, within (goal.at.slice_bounds-put_frame-end-then-held c).After-body_size)
+pub slice_bounds-put_frame-count-2 : goal.slice_bounds-put_frame-count-2
+slice_bounds-put_frame-count-2 c = omega (arith, within (goal.at.slice_bounds-put_frame-count-2 c).After-body_size)
 
-pub slice_bounds-put_frame-count-then-held-2 : goal.slice_bounds-put_frame-count-then-held-2
-slice_bounds-put_frame-count-then-held-2 c = omega (arith, within (goal.at.slice_bounds-put_frame-count-then-held-2 c).After-body_size)
-
-pub slice_bounds-put_frame-start-then-held-2 : goal.slice_bounds-put_frame-start-then-held-2
-slice_bounds-put_frame-start-then-held-2 c = omega (arith, within (goal.at.slice_bounds-put_frame-start-then-held-2 c).After-body_size)
+pub slice_bounds-put_frame-start-2 : goal.slice_bounds-put_frame-start-2
+slice_bounds-put_frame-start-2 c = omega (arith, within (goal.at.slice_bounds-put_frame-start-2 c).After-body_size)
 
 pub overflow_sub-count : goal.overflow_sub-count
 overflow_sub-count c =
     let a = c.args in
     let p = goal.at.overflow_sub-count c in
-    some_held a.areas.now a.number a.output.now (sound p.Else-fault-ne0) (has p.Then-held) c.u8_at-count.result c.body_size.result c.place_of-place.result c.u8_at-count.ensures c.place_of-place.ensures c.body_size.ensures
+    some_held a.areas.now a.number a.output.now (sound p.Else-fault-ne0) (has p.Else-not-place) c.u8_at-count.result c.body_size.result c.place_of-place.result c.u8_at-count.ensures c.place_of-place.ensures c.body_size.ensures
 
 pub put_frame-requires : goal.put_frame-requires
 put_frame-requires c =
     let a = c.args in
     let p = goal.at.put_frame-requires c in
-    two_small a.areas.now a.number a.output.now (sound p.Else-fault-ne0) (has p.Then-held) c.u8_at-count.result c.body_size.result c.place_of-place.result c.u8_at-count.ensures c.place_of-place.ensures c.body_size.ensures
+    two_small a.areas.now a.number a.output.now (sound p.Else-fault-ne0) (has p.Else-not-place) c.u8_at-count.result c.body_size.result c.place_of-place.result c.u8_at-count.ensures c.place_of-place.ensures c.body_size.ensures
 
-pub returns-then-held : goal.returns-then-held
-returns-then-held c =
+pub returns-then-not-place : goal.returns-then-not-place
+returns-then-not-place c =
     let a = c.args in
-    let p = goal.at.returns-then-held c in
-    let r = c.put_frame in
-    let all = remove_written a.areas.now a.number a.output.now (sound p.Else-fault-ne0) (has p.Then-held) c.u8_at-count.result c.body_size.result c.place_of-place.result c.u8_at-count.ensures c.place_of-place.ensures c.body_size.ensures r.result r.new.output r.ensures.value r.ensures.output_after in
+    let e = sound (goal.at.returns-then-not-place c).Else-fault-ne0 in
+    let all = remove_refused a.areas.now a.number a.output.now e (sym (ap (λ (x : Place). x.held) c.place_of-place.ensures) ∙ not-true c.place_of-place.result.held c.if-not-place.true) in
     record { value = all.0; output_after = all.1 }
 
 pub returns : goal.returns
 returns c =
     let a = c.args in
-    let e = sound (goal.at.returns c).Else-fault-ne0 in
-    let all = remove_refused a.areas.now a.number a.output.now e (sym (ap (λ (x : Place). x.held) c.place_of-place.ensures) ∙ c.if-held.false) in
+    let p = goal.at.returns c in
+    let r = c.put_frame in
+    let all = remove_written a.areas.now a.number a.output.now (sound p.Else-fault-ne0) (has p.Else-not-place) c.u8_at-count.result c.body_size.result c.place_of-place.result c.u8_at-count.ensures c.place_of-place.ensures c.body_size.ensures r.result r.new.output r.ensures.value r.ensures.output_after in
     record { value = all.0; output_after = all.1 }

@@ -4,4 +4,4 @@ use Rattle.entries.proofs.fresh.Goals as goal
 
 pub returns : goal.returns
 unfolding fresh_call
-returns c = record { value = c.write_fresh-n.ensures.0; state_after = c.write_fresh-n.ensures.1 }
+returns c = record { value = c.write_fresh.ensures.0; state_after = c.write_fresh.ensures.1 }

@@ -22,7 +22,7 @@ state_fault-requires c =
     let old = c.args.old.now in
     let ok = sym c.frame_fault-fault.ensures ∙ c.if-fault-ne0.false in
     let same = cp.1 ∙ copied old _ (le_of_eq (sym (head_says 5 184 old ok).1.1)) in
-    let keeps = ap flight_keeps c.refused_flight-flight.ensures ∙ default_keeps in
+    let keeps = ap flight_keeps c.refused_flight.ensures ∙ default_keeps in
     (λ i. frame_fault (state_kind (keeps i)) (state_length (keeps i)) (same i)) ∙ ok
 
 pub returns : goal.returns
@@ -31,5 +31,5 @@ returns c =
     let old = c.args.old.now in
     let ok = sym c.frame_fault-fault.ensures ∙ c.if-fault-ne0.false in
     let same = cp.1 ∙ copied old _ (le_of_eq (sym (head_says 5 184 old ok).1.1)) in
-    let keeps = ap flight_keeps c.refused_flight-flight.ensures ∙ default_keeps in
+    let keeps = ap flight_keeps c.refused_flight.ensures ∙ default_keeps in
     c.state_fault.ensures.value ∙ (λ i. refusal_of (read_state (keeps i) (same i)))

@@ -1,8 +1,10 @@
 use mathlib.Core.Path.{ap, ◌∙◌}
-use lib.ListN.{length}
+use lib.ListN.{length, get_or}
+use Rattle.time.specs.Time.{plain}
+use Rattle.triggers.specs.Families.{gcs_age}
 use Rattle.calls.specs.Entry.{flight_keeps}
 use Rattle.wire.proofs.Head.{head_says}
-use Rattle.entries.proofs.Finish.{Had, same_number, same_output, stepped_state, kept_state, left_long, low_long, listed_thirty, keeps_marked}
+use Rattle.entries.proofs.Finish.{Had, given, same_number, same_output, stepped_state, kept_state, left_long, low_long, listed_thirty, keeps_marked}
 use Rattle.entries.proofs.step_marked.Goals as goal
 
 pub state_on-low-requires : goal.state_on-low-requires
@@ -12,7 +14,7 @@ pub telemetry_on-reading-requires : goal.telemetry_on-reading-requires
 telemetry_on-reading-requires c = (head_says 9 148 c.args.telemetry.now c.requires.2).1.1
 
 pub widen_after-requires : goal.widen_after-requires
-widen_after-requires c = ((head_says 10 304 c.args.state.now c.requires.1).1.1, ap length c.step_state-n.ensures.state_after ∙ left_long _ _ _ _ _ _ (ap length c.state_on-low.ensures ∙ low_long _ _ (ap length c.state_marks.ensures ∙ listed_thirty _) c.requires.1) _ (ap flight_keeps c.marked_flight-marked.ensures ∙ keeps_marked c.args.flight _ ∙ c.requires.0))
+widen_after-requires c = ((head_says 10 304 c.args.state.now c.requires.1).1.1, ap length c.step_state-n.ensures.state_after ∙ left_long _ _ _ _ _ _ (ap length c.state_on-low.ensures ∙ low_long _ _ (ap length c.state_marks.ensures ∙ listed_thirty _) c.requires.1) _ (ap flight_keeps c.marked_flight-marked.ensures ∙ keeps_marked c.args.flight.now _ ∙ c.requires.0))
 
 pub returns-then-n-eq0 : goal.returns-then-n-eq0
 returns-then-n-eq0 c =
@@ -26,13 +28,13 @@ returns-then-n-eq0 c =
     let hb = c.flag_at in
     let ag = c.heartbeat_age-age in
     let mf = c.marked_flight-marked in
-    let had : Had c.args.with_side c.args.flight c.args.areas.now c.args.state.now c.args.telemetry.now c.args.output.now c.requires.0 c.requires.1 c.requires.2 x.result j.result sm.result lo.result tm.result rd.result hb.result ag.result mf.result =
-    record { instants = x.ensures; stamps = j.ensures; marks = sm.ensures; image = lo.ensures; stamp_marks_lem = tm.ensures; reading = rd.ensures; heartbeat = hb.ensures; old = ag.ensures; flight = mf.ensures }
+    let had : Had c.args.with_side c.args.flight.now c.args.areas.now c.args.state.now c.args.telemetry.now c.args.output.now c.requires.0 c.requires.1 c.requires.2 x.result j.result sm.result lo.result tm.result rd.result hb.result ag.result mf.result =
+    record { instants = x.ensures; stamps = j.ensures; marks = sm.ensures; image = lo.ensures; stamp_marks_lem = tm.ensures; reading = rd.ensures; heartbeat = hb.ensures; old = ag.ensures ∙ ap (gcs_age plain (get_or j.result 0 0)) (c.then_some-heartbeat.ensures ∙ given _ _); flight = mf.ensures }
     in
     record {
-      value = same_number c.args.with_side c.args.flight c.args.areas.now c.args.state.now c.args.telemetry.now c.args.output.now c.requires.0 c.requires.1 c.requires.2 x.result j.result sm.result lo.result tm.result rd.result hb.result ag.result mf.result had _ _ _ e.value e.state_after e.output_after;
-      state_after = c.widen_after.ensures ∙ stepped_state c.args.with_side c.args.flight c.args.areas.now c.args.state.now c.args.telemetry.now c.args.output.now c.requires.0 c.requires.1 c.requires.2 x.result j.result sm.result lo.result tm.result rd.result hb.result ag.result mf.result had _ _ _ e.value e.state_after e.output_after c.if-n-eq0.true;
-      output_after = same_output c.args.with_side c.args.flight c.args.areas.now c.args.state.now c.args.telemetry.now c.args.output.now c.requires.0 c.requires.1 c.requires.2 x.result j.result sm.result lo.result tm.result rd.result hb.result ag.result mf.result had _ _ _ e.value e.state_after e.output_after;
+      value = same_number c.args.with_side c.args.flight.now c.args.areas.now c.args.state.now c.args.telemetry.now c.args.output.now c.requires.0 c.requires.1 c.requires.2 x.result j.result sm.result lo.result tm.result rd.result hb.result ag.result mf.result had _ _ _ e.value e.state_after e.output_after;
+      state_after = c.widen_after.ensures ∙ stepped_state c.args.with_side c.args.flight.now c.args.areas.now c.args.state.now c.args.telemetry.now c.args.output.now c.requires.0 c.requires.1 c.requires.2 x.result j.result sm.result lo.result tm.result rd.result hb.result ag.result mf.result had _ _ _ e.value e.state_after e.output_after c.if-n-eq0.true;
+      output_after = same_output c.args.with_side c.args.flight.now c.args.areas.now c.args.state.now c.args.telemetry.now c.args.output.now c.requires.0 c.requires.1 c.requires.2 x.result j.result sm.result lo.result tm.result rd.result hb.result ag.result mf.result had _ _ _ e.value e.state_after e.output_after;
     }
 
 pub returns-else-n-eq0 : goal.returns-else-n-eq0
@@ -47,11 +49,11 @@ returns-else-n-eq0 c =
     let hb = c.flag_at in
     let ag = c.heartbeat_age-age in
     let mf = c.marked_flight-marked in
-    let had : Had c.args.with_side c.args.flight c.args.areas.now c.args.state.now c.args.telemetry.now c.args.output.now c.requires.0 c.requires.1 c.requires.2 x.result j.result sm.result lo.result tm.result rd.result hb.result ag.result mf.result =
-    record { instants = x.ensures; stamps = j.ensures; marks = sm.ensures; image = lo.ensures; stamp_marks_lem = tm.ensures; reading = rd.ensures; heartbeat = hb.ensures; old = ag.ensures; flight = mf.ensures }
+    let had : Had c.args.with_side c.args.flight.now c.args.areas.now c.args.state.now c.args.telemetry.now c.args.output.now c.requires.0 c.requires.1 c.requires.2 x.result j.result sm.result lo.result tm.result rd.result hb.result ag.result mf.result =
+    record { instants = x.ensures; stamps = j.ensures; marks = sm.ensures; image = lo.ensures; stamp_marks_lem = tm.ensures; reading = rd.ensures; heartbeat = hb.ensures; old = ag.ensures ∙ ap (gcs_age plain (get_or j.result 0 0)) (c.then_some-heartbeat.ensures ∙ given _ _); flight = mf.ensures }
     in
     record {
-      value = same_number c.args.with_side c.args.flight c.args.areas.now c.args.state.now c.args.telemetry.now c.args.output.now c.requires.0 c.requires.1 c.requires.2 x.result j.result sm.result lo.result tm.result rd.result hb.result ag.result mf.result had _ _ _ e.value e.state_after e.output_after;
-      state_after = kept_state c.args.with_side c.args.flight c.args.areas.now c.args.state.now c.args.telemetry.now c.args.output.now c.requires.0 c.requires.1 c.requires.2 x.result j.result sm.result lo.result tm.result rd.result hb.result ag.result mf.result had _ _ _ e.value e.state_after e.output_after c.if-n-eq0.false;
-      output_after = same_output c.args.with_side c.args.flight c.args.areas.now c.args.state.now c.args.telemetry.now c.args.output.now c.requires.0 c.requires.1 c.requires.2 x.result j.result sm.result lo.result tm.result rd.result hb.result ag.result mf.result had _ _ _ e.value e.state_after e.output_after;
+      value = same_number c.args.with_side c.args.flight.now c.args.areas.now c.args.state.now c.args.telemetry.now c.args.output.now c.requires.0 c.requires.1 c.requires.2 x.result j.result sm.result lo.result tm.result rd.result hb.result ag.result mf.result had _ _ _ e.value e.state_after e.output_after;
+      state_after = kept_state c.args.with_side c.args.flight.now c.args.areas.now c.args.state.now c.args.telemetry.now c.args.output.now c.requires.0 c.requires.1 c.requires.2 x.result j.result sm.result lo.result tm.result rd.result hb.result ag.result mf.result had _ _ _ e.value e.state_after e.output_after c.if-n-eq0.false;
+      output_after = same_output c.args.with_side c.args.flight.now c.args.areas.now c.args.state.now c.args.telemetry.now c.args.output.now c.requires.0 c.requires.1 c.requires.2 x.result j.result sm.result lo.result tm.result rd.result hb.result ag.result mf.result had _ _ _ e.value e.state_after e.output_after;
     }

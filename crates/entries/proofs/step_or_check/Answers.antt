@@ -43,7 +43,7 @@ flight_is c =
     let t = take_all 246 s (omega (arith, length-due s h)) in
     c.accept_frame-flight.ensures
     ∙ (λ i. accept_flight (config_at (t i) (keeps_raised (t i))) (e i))
-    ∙ sym (flight_read s a.fence.now h (ap (λ (r : FenceRead). r.refused) (sym e) ∙ c.if-unread-ne0.false))
+    ∙ sym (flight_read s a.fence.now h (ap (λ (r : FenceRead). r.refused) (sym e) ∙ c.if-read-ne0.false))
 
 -- the refusal that is found first is that of the flight, or else of the areas
 refusal_is : (c : After-first_refusal-refused) → c.first_refusal-refused.result ≡ or_refused c.accept_frame-flight.result.refused (areas_fault c.args.areas.now)
@@ -56,13 +56,13 @@ returns-then-fault-ne0 c =
     let f = config_refused a.config.now a.fence.now (λ z. c.if-fault-ne0.true (e ∙ z)) ∙ ap refused_flight (sym e) in
     rw (refused_call a.checking a.with_side a.config.now a.fence.now a.state.now a.telemetry.now a.output.now a.areas.now _ c.if-fault-ne0.true f) record { value = refl; state_after = refl; output_after = refl }
 
-pub returns-then-unread-ne0 : goal.returns-then-unread-ne0
-returns-then-unread-ne0 c =
+pub returns-then-read-ne0 : goal.returns-then-read-ne0
+returns-then-read-ne0 c =
     let a = c.args in
     let h = sym c.config_fault-fault.ensures ∙ c.if-fault-ne0.false in
     let e = ap (λ (r : FenceRead). r.refused) c.read_fence-read.ensures in
-    let f = fence_refused a.config.now a.fence.now h (λ z. c.if-unread-ne0.true (e ∙ z)) ∙ ap refused_flight (sym e) in
-    rw (refused_call a.checking a.with_side a.config.now a.fence.now a.state.now a.telemetry.now a.output.now a.areas.now _ c.if-unread-ne0.true f) record { value = refl; state_after = refl; output_after = refl }
+    let f = fence_refused a.config.now a.fence.now h (λ z. c.if-read-ne0.true (e ∙ z)) ∙ ap refused_flight (sym e) in
+    rw (refused_call a.checking a.with_side a.config.now a.fence.now a.state.now a.telemetry.now a.output.now a.areas.now _ c.if-read-ne0.true f) record { value = refl; state_after = refl; output_after = refl }
 
 pub returns-then-refused-ne0 : goal.returns-then-refused-ne0
 unfolding step_any step_or_check
@@ -78,16 +78,9 @@ returns-then-checking c = rw (← flight_is (goal.at.returns-then-checking c).Af
 pub step_wide-requires : goal.step_wide-requires
 step_wide-requires c = not_keeps _ _ (sym c.is_wide.ensures ∙ c.if-is_wide.true)
 
-pub step_wide-requires-else-with_side : goal.step_wide-requires-else-with_side
-step_wide-requires-else-with_side c = not_keeps _ _ (sym c.is_wide.ensures ∙ c.if-is_wide.true)
-
-pub returns-then-with_side : goal.returns-then-with_side
+pub returns-then-is_wide : goal.returns-then-is_wide
 unfolding step_any step_or_check form_of
-returns-then-with_side c = rw (← flight_is (goal.at.returns-then-with_side c).After-accept_frame-flight, ← refusal_is (goal.at.returns-then-with_side c).After-first_refusal-refused, eq-eqb _ _ c.if-refused-ne0.false, c.if-checking.false, ← c.is_wide.ensures, c.if-is_wide.true, c.if-with_side.true) record { value = c.step_wide.ensures.value; state_after = c.step_wide.ensures.state_after; output_after = c.step_wide.ensures.output_after }
-
-pub returns-else-with_side : goal.returns-else-with_side
-unfolding step_any step_or_check form_of
-returns-else-with_side c = rw (← flight_is (goal.at.returns-else-with_side c).After-accept_frame-flight, ← refusal_is (goal.at.returns-else-with_side c).After-first_refusal-refused, eq-eqb _ _ c.if-refused-ne0.false, c.if-checking.false, ← c.is_wide.ensures, c.if-is_wide.true, c.if-with_side.false) record { value = c.step_wide-else-with_side.ensures.value; state_after = c.step_wide-else-with_side.ensures.state_after; output_after = c.step_wide-else-with_side.ensures.output_after }
+returns-then-is_wide c = rw (← flight_is (goal.at.returns-then-is_wide c).After-accept_frame-flight, ← refusal_is (goal.at.returns-then-is_wide c).After-first_refusal-refused, eq-eqb _ _ c.if-refused-ne0.false, c.if-checking.false, ← c.is_wide.ensures, c.if-is_wide.true) record { value = c.step_wide.ensures.value; state_after = c.step_wide.ensures.state_after; output_after = c.step_wide.ensures.output_after }
 
 pub returns-else-is_wide : goal.returns-else-is_wide
 unfolding step_any step_or_check form_of

@@ -20,4 +20,4 @@ returns-then-late-ne0 c =
     let a = c.args in
     let ok_s = sym c.frame_fault-fault.ensures ∙ c.if-fault-ne0.false in
     let late = ap (λ (n : ℕ). eqb n 0) (sym c.frame_fault-late.ensures) ∙ ne_eqb _ _ c.if-late-ne0.true in
-    rw (late_call a.with_side a.flight a.areas.now a.state.now a.telemetry.now a.output.now ok_s late) record { value = c.late_refusal.ensures ∙ ap (or_refused (refusal_of (read_state false (state_on (replicate 30 0) a.state.now)))) c.frame_fault-late.ensures; state_after = refl; output_after = refl }
+    rw (late_call a.with_side a.flight.now a.areas.now a.state.now a.telemetry.now a.output.now ok_s late) record { value = c.late_refusal.ensures ∙ ap (or_refused (refusal_of (read_state false (state_on (replicate 30 0) a.state.now)))) c.frame_fault-late.ensures; state_after = refl; output_after = refl }

@@ -18,7 +18,7 @@ use Rattle.entries.proofs.write_output.Goals as goal
 pub returns-then-with_side : goal.returns-then-with_side
 returns-then-with_side c =
     let o = c.args.output.now in
-    let d = c.args.d in
+    let d = c.args.d.now in
     let taken = c.if-with_side.true in
     let w = c.write_decision.ensures.1 in
     let long = subst (λ (b : Bool). output_size b ≤ length o) taken c.requires in
@@ -32,4 +32,4 @@ pub returns-else-with_side : goal.returns-else-with_side
 returns-else-with_side c =
     let o = c.args.output.now in
     let left = c.if-with_side.false in
-    rw left (c.write_decision.ensures.1 ∙ frame_written_lem (decision_frame c.args.d) o 95 (decision_size c.args.d) (subst (λ (b : Bool). output_size b ≤ length o) left c.requires))
+    rw left (c.write_decision.ensures.1 ∙ frame_written_lem (decision_frame c.args.d.now) o 95 (decision_size c.args.d.now) (subst (λ (b : Bool). output_size b ≤ length o) left c.requires))

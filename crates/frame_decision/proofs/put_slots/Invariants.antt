@@ -1,4 +1,4 @@
-use Prim.Native.Nat.{◌*◌, ◌-◌, ◌≤◌}
+use Prim.Native.Nat.{◌*◌, ◌-◌}
 use mathlib.Core.Path.{◌≡◌}
 use mathlib.Core.List.{◌++◌}
 use lib.ListN.{replicate}
@@ -7,7 +7,4 @@ use Rattle.frame_decision.specs.Slots.{le_slots}
 use Rattle.frame_decision.proofs.put_slots.Given as goal
 
 abbrev pub invariant-loop-i : goal.invariant-loop-i
-invariant-loop-i l = (l.i ≤ 19) × (l.s ≡ sets l.initial.s 7 (le_slots l.i l.reqs ++ replicate (57 - 3 * l.i) 0))
-
-abbrev pub decreases-loop-i : goal.decreases-loop-i
-decreases-loop-i l = 19 - l.i
+invariant-loop-i l = l.s ≡ sets l.initial.s 7 (le_slots l.i l.a.reqs ++ replicate (57 - 3 * l.i) 0)

@@ -1,7 +1,13 @@
 -- `frame_decision::slot_at` meets its contract. Assumes nothing.
+use Rattle.std.specs.Prelude.{Some}
+use mathlib.Core.Path.{◌∙◌, sym}
 use Rattle.frame_decision.specs.Slots.{slot_at}
 use Rattle.frame_decision.proofs.slot_at.Goals as goal
 
-pub returns : goal.returns
+pub returns-then-flag_at : goal.returns-then-flag_at
 unfolding slot_at
-returns c = λ i. record { present = c.flag_at-present.ensures i; reason = c.reason_at-reason.ensures i; action = c.action_at-action.ensures i }
+returns-then-flag_at c = simp (sym c.flag_at.ensures ∙ c.if-flag_at.true) (λ j. Some (record { reason = c.reason_at.ensures j; action = c.action_at.ensures j }))
+
+pub returns-else-flag_at : goal.returns-else-flag_at
+unfolding slot_at
+returns-else-flag_at c = simp (sym c.flag_at.ensures ∙ c.if-flag_at.false)

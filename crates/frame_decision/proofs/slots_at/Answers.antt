@@ -10,11 +10,11 @@ use Rattle.frame_decision.proofs.slots_at.Goals as goal
 
 pub loop-i-init : goal.loop-i-init
 unfolding slots_at
-loop-i-init c = (omega arith, (refl, refl))
+loop-i-init c = (refl, refl)
 
 pub loop-i-preserved : goal.loop-i-preserved
 unfolding slots_at
 loop-i-preserved c =
     let l = c.loop-i in
     let h : l.i < length l.reqs = omega arith in
-    (omega arith, (simp length-set l.invariant.1.0, rw (add-one, take-suc-set, c.slot_at-y.ensures, l.invariant.1.1)))
+    (simp length-set l.invariant.0, rw (add-one, take-suc-set, c.slot_at.ensures, l.invariant.1))

@@ -17,20 +17,20 @@ spoilt s k (suc d) e = ap (slots_valid s) (add-suc k d) ∙ ap (λ (b : Bool). b
 
 pub loop-i-init : goal.loop-i-init
 unfolding slots_valid
-loop-i-init c = (omega arith, refl)
+loop-i-init c = refl
 
 pub loop-i-preserved : goal.loop-i-preserved
 unfolding slots_valid
 loop-i-preserved c =
     let l = c.loop-i in
-    let t = sym c.slot_valid.ensures ∙ c.if-slot_valid.true in
-    (omega arith, rw add-one (λ j. l.invariant.1 j && t j))
+    let t = sym c.slot_valid.ensures ∙ c.if-not-slot_valid.false in
+    rw add-one (λ j. l.invariant j && t j)
 
-pub returns-else-slot_valid : goal.returns-else-slot_valid
+pub returns-then-not-slot_valid : goal.returns-then-not-slot_valid
 unfolding slots_valid
-returns-else-slot_valid c =
+returns-then-not-slot_valid c =
     let s = c.args.s.now in
     let l = c.loop-i in
-    let t = sym c.slot_valid.ensures ∙ c.if-slot_valid.false in
+    let t = sym c.slot_valid.ensures ∙ c.if-not-slot_valid.true in
     let m : suc l.i + (18 - l.i) ≡ 19 = omega arith in
-    sym (ap (slots_valid s) (sym m) ∙ spoilt s (suc l.i) (18 - l.i) (λ j. l.invariant.1 j && t j))
+    sym (ap (slots_valid s) (sym m) ∙ spoilt s (suc l.i) (18 - l.i) (λ j. l.invariant j && t j))

@@ -1,11 +1,7 @@
-use Prim.Native.Nat.{◌-◌, ◌≤◌}
 use mathlib.Core.Path.{◌≡◌}
 use mathlib.Core.Bool.{true}
 use Rattle.frame_decision.specs.Slots.{slots_valid}
 use Rattle.frame_decision.proofs.slots_valid.Given as goal
 
 abbrev pub invariant-loop-i : goal.invariant-loop-i
-invariant-loop-i l = (l.i ≤ 19) × (slots_valid l.s l.i ≡ true)
-
-abbrev pub decreases-loop-i : goal.decreases-loop-i
-decreases-loop-i l = 19 - l.i
+invariant-loop-i l = slots_valid l.s l.i ≡ true

@@ -1,6 +1,6 @@
 -- `frame_fence::fence_of` meets its contract. Assumes nothing.
 use mathlib.Core.Path.{◌∙◌}
-use Rattle.corners.specs.Acceptance.{result_and}
+use Rattle.std.specs.Result.{result_and}
 use Rattle.geometry.specs.Polygon.{geofence_new}
 use Rattle.frame_fence.specs.FenceFrame.{fence_rules, fence_of}
 use Rattle.frame_fence.proofs.fence_of.Goals as goal

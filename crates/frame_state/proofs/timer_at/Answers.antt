@@ -1,6 +1,6 @@
 -- `frame_state::timer_at` meets its contract. Assumes nothing.
+use Rattle.std.specs.Prelude.{Some}
 use mathlib.Core.Path.{◌∙◌, sym}
-use Rattle.types.specs.declared.OptionU32.TheVariants.{Some}
 use Rattle.options.specs.Options.{option_u32_at}
 use Rattle.frame_state.specs.StateFrame.{timer_at}
 use Rattle.frame_state.proofs.timer_at.Goals as goal

@@ -1,10 +1,9 @@
 -- `frame_telemetry::gps_field` meets its contract. Assumes nothing.
+use Rattle.std.specs.Prelude.{Some, Ok}
 use mathlib.Core.Path.{◌∙◌, sym}
 use mathlib.Core.Bool.{true, false}
 use Rattle.wire.specs.Fields.{u8_at}
 use Rattle.options.proofs.Options.{present}
-use Rattle.types.specs.declared.OptionGpsSample.TheVariants.{Some}
-use Rattle.frame_telemetry.specs.declared.GpsField.TheVariants.{Valid}
 use Rattle.frame_telemetry.specs.Readings.{option_gps_at}
 use Rattle.frame_telemetry.specs.Checked.{sample_at, gps_valid, gps_field}
 use Rattle.frame_telemetry.proofs.Checked.{flag_set, flag_clear, tested, all_zero_lem, zero_sample_lem}
@@ -15,7 +14,7 @@ unfolding u8_at sample_at option_gps_at gps_valid gps_field
 returns-then-sample_valid c =
     let s = c.args.s.now in
     let e = c.if-f-eq1.true in
-    simp (present s 37 12 e, sym c.sample_valid.ensures ∙ c.if-sample_valid.true, flag_set s 37 e) (λ j. Valid (Some (c.sample_at.ensures j)))
+    simp (present s 37 12 e, sym c.sample_valid.ensures ∙ c.if-sample_valid.true, flag_set s 37 e) (λ j. Ok (Some (c.sample_at.ensures j)))
 
 pub returns-else-sample_valid : goal.returns-else-sample_valid
 unfolding u8_at gps_valid gps_field

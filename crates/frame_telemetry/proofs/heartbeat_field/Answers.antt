@@ -1,10 +1,9 @@
 -- `frame_telemetry::heartbeat_field` meets its contract. Assumes nothing.
+use Rattle.std.specs.Prelude.{Some, Ok}
 use mathlib.Core.Bool.{true, false}
 use Rattle.wire.specs.Fields.{u8_at}
 use Rattle.options.proofs.Options.{present}
 use Rattle.options.specs.Options.{option_u32_at}
-use Rattle.types.specs.declared.OptionU32.TheVariants.{Some}
-use Rattle.frame_telemetry.specs.declared.HeartbeatField.TheVariants.{Valid}
 use Rattle.frame_telemetry.specs.Checked.{heartbeat_field}
 use Rattle.frame_telemetry.proofs.Checked.{flag_set, flag_clear, tested}
 use Rattle.frame_telemetry.proofs.heartbeat_field.Goals as goal
@@ -14,7 +13,7 @@ unfolding u8_at option_u32_at heartbeat_field
 returns-then-f-eq1 c =
     let s = c.args.s.now in
     let e = c.if-f-eq1.true in
-    simp (present s 77 4 e, flag_set s 77 e) (λ j. Valid (Some (c.word.ensures j)))
+    simp (present s 77 4 e, flag_set s 77 e) (λ j. Ok (Some (c.word.ensures j)))
 
 pub returns-then-f-zero4 : goal.returns-then-f-zero4
 unfolding u8_at option_u32_at heartbeat_field

@@ -1,11 +1,10 @@
 -- `frame_telemetry::landed_field` meets its contract. Assumes nothing.
+use Rattle.std.specs.Prelude.{Some, Ok}
 use mathlib.Core.Bool.{true, false}
 use native.Mathlib.Omega.{arith}
 use borrow.Author.Tests.{lt-ltb, le-ltb}
 use Rattle.wire.specs.Fields.{u8_at, byte_below}
 use Rattle.options.proofs.Options.{present}
-use Rattle.types.specs.declared.OptionStampedLandedState.TheVariants.{Some}
-use Rattle.frame_telemetry.specs.declared.StampedLandedField.TheVariants.{Valid}
 use Rattle.frame_telemetry.specs.Readings.{stamped_landed_at}
 use Rattle.frame_telemetry.specs.Checked.{landed_valid, landed_field}
 use Rattle.frame_telemetry.proofs.Checked.{flag_set, flag_clear, tested, all_zero_lem, last_below}
@@ -16,7 +15,7 @@ unfolding u8_at byte_below stamped_landed_at landed_valid landed_field
 returns-then-s-lt5 c =
     let s = c.args.s.now in
     let e = c.if-f-eq1.true in
-    simp (present s 88 5 e, lt-ltb (u8_at s 93) 5 c.if-s-lt5.true, flag_set s 88 e) (λ j. Valid (Some (c.word-t_ms.ensures j) (c.landed_at-value.ensures j)))
+    simp (present s 88 5 e, lt-ltb (u8_at s 93) 5 c.if-s-lt5.true, flag_set s 88 e) (λ j. Ok (Some (record { t_ms = c.word-t_ms.ensures j; value = c.landed_at-value.ensures j })))
 
 pub returns-else-s-lt5 : goal.returns-else-s-lt5
 unfolding u8_at byte_below landed_valid landed_field

@@ -1,10 +1,9 @@
 -- `frame_telemetry::position_field` meets its contract. Assumes nothing.
+use Rattle.std.specs.Prelude.{Some, Ok}
 use mathlib.Core.Bool.{true, false}
 use Rattle.wire.specs.Fields.{u8_at}
 use Rattle.options.proofs.Options.{present}
 use Rattle.options.specs.Position.{option_position_at}
-use Rattle.types.specs.declared.OptionPositionSample.TheVariants.{Some}
-use Rattle.frame_telemetry.specs.declared.PositionField.TheVariants.{Valid}
 use Rattle.frame_telemetry.specs.Checked.{position_field}
 use Rattle.frame_telemetry.proofs.Checked.{flag_set, flag_clear, tested}
 use Rattle.frame_telemetry.proofs.position_field.Goals as goal
@@ -15,7 +14,7 @@ returns-then-f-eq1 c =
     let s = c.args.s.now in
     let e = c.if-f-eq1.true in
     simp (present s 8 28 e, flag_set s 8 e)
-    (λ j. Valid (Some (record { t_ms = c.word-t_ms.ensures j; pos = c.vec3-pos.ensures j; vel = c.vec3-vel.ensures j })))
+    (λ j. Ok (Some (record { t_ms = c.word-t_ms.ensures j; pos = c.vec3-pos.ensures j; vel = c.vec3-vel.ensures j })))
 
 pub returns-then-f-zero28 : goal.returns-then-f-zero28
 unfolding u8_at option_position_at position_field

@@ -1,4 +1,5 @@
 -- `frame_telemetry::put_position` meets its contract. The calls' contracts, one after the other, are a run of stores. Assumes nothing.
+use Rattle.std.specs.Prelude.{Some}
 use Prim.Native.Nat.{ℕ}
 use mathlib.Core.Path.{◌≡◌, ◌∙◌, refl}
 use mathlib.Core.List.{List, [], ◌∷◌}
@@ -8,7 +9,6 @@ use Rattle.wire.specs.Fields.{le8, le_flag, le_bytes, le32, le_f32}
 use Rattle.wire.proofs.Stores.{Piece, put, after, done, into, ran}
 use Rattle.options.specs.Position.{position_cells}
 use Rattle.types.specs.declared.PositionSample.{PositionSample}
-use Rattle.types.specs.declared.OptionPositionSample.{OptionPositionSample}
 use Rattle.frame_telemetry.proofs.put_position.Goals as goal
 
 abbrev pieces : PositionSample → List Piece
@@ -23,7 +23,7 @@ pieces p =
     put 33 (le_f32 p.vel.d) ∷
     []
 
-flat : (l : List ℕ) (p : PositionSample) → after l (pieces p) ≡ sets l 8 (bytes_of (position_cells (OptionPositionSample.Some p)))
+flat : (l : List ℕ) (p : PositionSample) → after l (pieces p) ≡ sets l 8 (bytes_of (position_cells (Some p)))
 unfolding le8 le_flag le_bytes le32 le_f32
 flat l p = refl
 

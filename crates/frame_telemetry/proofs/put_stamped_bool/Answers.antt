@@ -10,8 +10,7 @@ pub returns : goal.returns
 unfolding le_flag le_bytes le32
 returns c =
     let a = c.args in
-    let some = c.is_some_stamped_bool in
-    let stamp = c.stamp_bool in
-    let value = c.value_bool in
-    stamped a.s.now a.at some.result stamp.result (le_flag value.result) c.put_flag.ensures c.put_u32.ensures c.put_flag-2.ensures
-    ∙ (λ j. sets a.s.now a.at (le_flag (some.ensures j) ++ (le32 (stamp.ensures j) ++ le_flag (value.ensures j))))
+    let some = c.is_some in
+    let r = c.unwrap_or-r in
+    stamped a.s.now a.at some.result r.result.t_ms (le_flag r.result.value) c.put_flag.ensures c.put_u32.ensures c.put_flag-2.ensures
+    ∙ (λ j. sets a.s.now a.at (le_flag (some.ensures j) ++ (le32 (r.ensures j).t_ms ++ le_flag (r.ensures j).value)))

@@ -10,8 +10,7 @@ pub returns : goal.returns
 unfolding le_flag le_bytes le32 le_f32
 returns c =
     let a = c.args in
-    let some = c.is_some_stamped_f32 in
-    let stamp = c.stamp_f32 in
-    let value = c.value_f32 in
-    stamped a.s.now a.at some.result stamp.result (le_f32 value.result) c.put_flag.ensures c.put_u32.ensures c.put_f32.ensures
-    ∙ (λ j. sets a.s.now a.at (le_flag (some.ensures j) ++ (le32 (stamp.ensures j) ++ le_f32 (value.ensures j))))
+    let some = c.is_some in
+    let r = c.unwrap_or-r in
+    stamped a.s.now a.at some.result r.result.t_ms (le_f32 r.result.value) c.put_flag.ensures c.put_u32.ensures c.put_f32.ensures
+    ∙ (λ j. sets a.s.now a.at (le_flag (some.ensures j) ++ (le32 (r.ensures j).t_ms ++ le_f32 (r.ensures j).value)))

@@ -1,12 +1,11 @@
 -- `frame_telemetry::stamped_bool_field` meets its contract. Assumes nothing.
+use Rattle.std.specs.Prelude.{Some, Ok}
 use Prim.Native.Nat.{◌+◌}
 use mathlib.Core.Bool.{true, false}
 use native.Mathlib.Omega.{arith}
 use borrow.Author.Tests.{eq-eqb, lt-ltb, le-ltb}
 use Rattle.wire.specs.Fields.{u8_at, flag_at, byte_below}
 use Rattle.options.proofs.Options.{present}
-use Rattle.types.specs.declared.OptionStampedBool.TheVariants.{Some}
-use Rattle.frame_telemetry.specs.declared.StampedBoolField.TheVariants.{Valid}
 use Rattle.frame_telemetry.specs.Readings.{stamped_bool_at}
 use Rattle.frame_telemetry.specs.Checked.{stamped_bool_valid, stamped_bool_field}
 use Rattle.frame_telemetry.proofs.Checked.{flag_clear, tested, all_zero_lem, last_below}
@@ -18,7 +17,7 @@ returns-then-b-lt2 c =
     let a = c.args in
     let s = a.s.now in
     let e = c.if-f-eq1.true in
-    simp (present s a.at 5 e, lt-ltb (u8_at s (a.at + 5)) 2 c.if-b-lt2.true, eq-eqb (u8_at s a.at) 1 e) (λ j. Valid (Some (c.word-t_ms.ensures j) (flag_at s (a.at + 5))))
+    simp (present s a.at 5 e, lt-ltb (u8_at s (a.at + 5)) 2 c.if-b-lt2.true, eq-eqb (u8_at s a.at) 1 e) (λ j. Ok (Some (record { t_ms = c.word-t_ms.ensures j; value = flag_at s (a.at + 5) })))
 
 pub returns-else-b-lt2 : goal.returns-else-b-lt2
 unfolding u8_at byte_below stamped_bool_valid stamped_bool_field

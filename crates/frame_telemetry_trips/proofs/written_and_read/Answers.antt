@@ -1,37 +1,27 @@
 -- `frame_telemetry_trips::written_and_read` meets its contract. What is known of the floats and numbers of a Telemetry comes from its type. Assumes nothing.
+use Rattle.std.specs.Prelude.{Option, Some, None, ℕ, Float, Bool, unwrap_or}
 use Prim.Native.Nat.{◌<◌, ◌^◌}
 use mathlib.Core.Path.{◌≡◌, ◌∙◌, ap}
 use mathlib.Core.List.{List, ◌++◌, append-nil}
 use lib.Dec.{T, lit<}
 use lib.ListN.{replicate}
-use lib.Ieee.{binary32, fits}
+use lib.Ieee.{binary32, fits, of_bits}
 use lib.Ieee.Bits.{of_bits-fits}
 use mir.Val.{Val}
+use denote.Builtin.{u8, u32, f32, bool}
 use denote.Shadow.{shadow}
 use denote.Floats.{passes}
-use Rattle.types.specs.contracts.OptionU8.{the_field as u8_field, the_type as u8_type}
-use Rattle.types.specs.contracts.OptionU32.{the_field as u32_field, the_type as u32_type}
-use Rattle.types.specs.contracts.OptionF32.{the_field as f32_field, the_type as f32_type}
-use Rattle.types.specs.contracts.OptionPositionSample.{the_field as position_field_lem, the_type as position_type}
-use Rattle.types.specs.contracts.OptionGpsSample.{the_field as gps_field_lem, the_type as gps_type}
-use Rattle.types.specs.contracts.OptionStampedF32.{the_field as stamped_f32_field_lem, the_type as stamped_f32_type}
-use Rattle.types.specs.contracts.OptionStampedBool.{the_field as stamped_bool_field_lem, the_type as stamped_bool_type}
-use Rattle.types.specs.contracts.OptionStampedLandedState.{the_field as landed_field_lem, the_type as landed_type}
+use Rattle.std.specs.contracts.option.Option.{the_field, the_type}
+use Rattle.types.specs.contracts.PositionSample.{the_row as position_row}
+use Rattle.types.specs.contracts.GpsSample.{the_row as gps_row}
+use Rattle.types.specs.contracts.LandedState.{the_row as landed_row}
+use Rattle.types.specs.contracts.Stamped.{the_row as stamped_row}
 use Rattle.types.specs.declared.GpsFix.{GpsFix}
 use Rattle.types.specs.declared.LandedState.{LandedState}
-use Rattle.types.specs.declared.OptionU8.{OptionU8}
-use Rattle.types.specs.declared.OptionU32.{OptionU32}
-use Rattle.types.specs.declared.OptionF32.{OptionF32}
-use Rattle.types.specs.declared.OptionPositionSample.{OptionPositionSample}
-use Rattle.types.specs.declared.OptionGpsSample.{OptionGpsSample}
-use Rattle.types.specs.declared.OptionStampedF32.{OptionStampedF32}
-use Rattle.types.specs.declared.OptionStampedBool.{OptionStampedBool}
-use Rattle.types.specs.declared.OptionStampedLandedState.{OptionStampedLandedState}
 use Rattle.types.specs.declared.Telemetry.{Telemetry}
 use Rattle.types.specs.Numbers.{fix_number, landed_number}
 use Rattle.wire.specs.Cell.{Within}
 use Rattle.wire.specs.Frame.{frame_written}
-use Rattle.options.specs.Options.{u8_or_zero, u32_or_zero, f32_or_zero}
 use Rattle.options.specs.Position.{position_cells}
 use Rattle.frame_telemetry.specs.Readings.{gps_cells, stamped_f32_cells, stamped_bool_cells, stamped_landed_cells}
 use Rattle.frame_telemetry.specs.TelemetryFrame.{read_telemetry, battery_cells, status_cells, telemetry_cells, telemetry_frame}
@@ -39,18 +29,21 @@ use Rattle.frame_telemetry.proofs.Size.{size}
 use Rattle.frame_telemetry_trips.proofs.Trips.{within_joined, value_back}
 use Rattle.frame_telemetry_trips.proofs.written_and_read.Goals as goal
 use Rattle.frame_telemetry_trips.proofs.written_and_read.Goals.{Start}
+use Rattle.types.specs.declared.Stamped.{Stamped}
+use Rattle.types.specs.declared.PositionSample.{PositionSample}
+use Rattle.types.specs.declared.GpsSample.{GpsSample}
 
-u8_within : (o : OptionU8) (v : List Val) → shadow (u8_field.row.own_val (u8_type.to o) v) → u8_or_zero o < 2 ^ 8
-u8_within OptionU8.None v h = lit< tt
-u8_within (OptionU8.Some n) v h = h.1.1.1.1.0.1
+u8_within : (o : Option ℕ) (v : List Val) → shadow ((the_field u8).row.own_val ((the_type u8).to o) v) → unwrap_or o 0 < 2 ^ 8
+u8_within None v h = lit< tt
+u8_within (Some n) v h = h.1.1.1.1.0.1
 
-u32_within : (o : OptionU32) (v : List Val) → shadow (u32_field.row.own_val (u32_type.to o) v) → u32_or_zero o < 2 ^ 32
-u32_within OptionU32.None v h = lit< tt
-u32_within (OptionU32.Some n) v h = h.1.1.1.1.0.1
+u32_within : (o : Option ℕ) (v : List Val) → shadow ((the_field u32).row.own_val ((the_type u32).to o) v) → unwrap_or o 0 < 2 ^ 32
+u32_within None v h = lit< tt
+u32_within (Some n) v h = h.1.1.1.1.0.1
 
-f32_within : (o : OptionF32) (v : List Val) → shadow (f32_field.row.own_val (f32_type.to o) v) → T (fits binary32 (f32_or_zero o))
-f32_within OptionF32.None v h = of_bits-fits binary32 0
-f32_within (OptionF32.Some x) v h = passes _ h.1.1.1.1.0.1
+f32_within : (o : Option Float) (v : List Val) → shadow ((the_field f32).row.own_val ((the_type f32).to o) v) → T (fits binary32 (unwrap_or o (of_bits binary32 0)))
+f32_within None v h = of_bits-fits binary32 0
+f32_within (Some x) v h = passes _ h.1.1.1.1.0.1
 
 fix_within : (f : GpsFix) → fix_number f < 2 ^ 8
 fix_within GpsFix.None = lit< tt
@@ -64,31 +57,31 @@ landed_within LandedState.InAir = lit< tt
 landed_within LandedState.Takeoff = lit< tt
 landed_within LandedState.Landing = lit< tt
 
-position_within : (o : OptionPositionSample) (v : List Val) → shadow (position_field_lem.row.own_val (position_type.to o) v) → Within (position_cells o)
-position_within OptionPositionSample.None v h = let f = of_bits-fits binary32 0 in (lit< tt, (f, (f, (f, (f, (f, (f, tt)))))))
-position_within (OptionPositionSample.Some p) v h =
+position_within : (o : Option PositionSample) (v : List Val) → shadow ((the_field position_row).row.own_val ((the_type position_row).to o) v) → Within (position_cells o)
+position_within None v h = let f = of_bits-fits binary32 0 in (lit< tt, (f, (f, (f, (f, (f, (f, tt)))))))
+position_within (Some p) v h =
     let q = h.1.1.1.1.0.1.1 in
     let n = q.1.0.1.1 in
     let w = q.1.1.0.1.1 in
     (q.0.1, (passes _ n.0.1, (passes _ n.1.0.1, (passes _ n.1.1.0.1, (passes _ w.0.1, (passes _ w.1.0.1, (passes _ w.1.1.0.1, tt)))))))
 
-gps_within : (o : OptionGpsSample) (v : List Val) → shadow (gps_field_lem.row.own_val (gps_type.to o) v) → Within (gps_cells o)
-gps_within OptionGpsSample.None v h = (lit< tt, (lit< tt, (lit< tt, (of_bits-fits binary32 0, tt))))
-gps_within (OptionGpsSample.Some g) v h =
+gps_within : (o : Option GpsSample) (v : List Val) → shadow ((the_field gps_row).row.own_val ((the_type gps_row).to o) v) → Within (gps_cells o)
+gps_within None v h = (lit< tt, (lit< tt, (lit< tt, (of_bits-fits binary32 0, tt))))
+gps_within (Some g) v h =
     let q = h.1.1.1.1.0.1.1 in
     (q.0.1, (fix_within g.fix, (u8_within g.sats _ q.1.1.0, (f32_within g.hdop _ q.1.1.1.0, tt))))
 
-stamped_f32_within : (o : OptionStampedF32) (v : List Val) → shadow (stamped_f32_field_lem.row.own_val (stamped_f32_type.to o) v) → Within (stamped_f32_cells o)
-stamped_f32_within OptionStampedF32.None v h = (lit< tt, (of_bits-fits binary32 0, tt))
-stamped_f32_within (OptionStampedF32.Some t x) v h = let q = h.1.1.1.1 in (q.0.1, (passes _ q.1.0.1, tt))
+stamped_f32_within : (o : Option (Stamped Float)) (v : List Val) → shadow ((the_field (stamped_row f32)).row.own_val ((the_type (stamped_row f32)).to o) v) → Within (stamped_f32_cells o)
+stamped_f32_within None v h = (lit< tt, (of_bits-fits binary32 0, tt))
+stamped_f32_within (Some r) v h = let q = h.1.1.1.1.0.1.1 in (q.0.1, (passes _ q.1.0.1, tt))
 
-stamped_bool_within : (o : OptionStampedBool) (v : List Val) → shadow (stamped_bool_field_lem.row.own_val (stamped_bool_type.to o) v) → Within (stamped_bool_cells o)
-stamped_bool_within OptionStampedBool.None v h = (lit< tt, tt)
-stamped_bool_within (OptionStampedBool.Some t b) v h = (h.1.1.1.1.0.1, tt)
+stamped_bool_within : (o : Option (Stamped Bool)) (v : List Val) → shadow ((the_field (stamped_row bool)).row.own_val ((the_type (stamped_row bool)).to o) v) → Within (stamped_bool_cells o)
+stamped_bool_within None v h = (lit< tt, tt)
+stamped_bool_within (Some r) v h = (h.1.1.1.1.0.1.1.0.1, tt)
 
-stamped_landed_within : (o : OptionStampedLandedState) (v : List Val) → shadow (landed_field_lem.row.own_val (landed_type.to o) v) → Within (stamped_landed_cells o)
-stamped_landed_within OptionStampedLandedState.None v h = (lit< tt, (lit< tt, tt))
-stamped_landed_within (OptionStampedLandedState.Some t l) v h = (h.1.1.1.1.0.1, (landed_within l, tt))
+stamped_landed_within : (o : Option (Stamped LandedState)) (v : List Val) → shadow ((the_field (stamped_row landed_row)).row.own_val ((the_type (stamped_row landed_row)).to o) v) → Within (stamped_landed_cells o)
+stamped_landed_within None v h = (lit< tt, (lit< tt, tt))
+stamped_landed_within (Some r) v h = (h.1.1.1.1.0.1.1.0.1, (landed_within r.value, tt))
 
 -- what its type says of each Telemetry
 within : (c : Start) → Within (telemetry_cells c.args.t)

@@ -9,6 +9,7 @@ use Rattle.wire.proofs.Stores.{Piece, put, after, done, into}
 use Rattle.frame_wide.specs.Resized.{widened}
 use Rattle.frame_wide.specs.WideState.{state_gaps}
 use Rattle.frame_wide.proofs.Places.{high_at, state_up, known, stretch}
+use borrow.Author.Rules.{rules}
 use Rattle.frame_wide.proofs.high_second.Goals as goal
 
 abbrev pieces : List ℕ → List ℕ → List Piece
@@ -30,7 +31,7 @@ returns c =
     let l = c.args.to.now in
     let g = c.args.given.now in
     let s = c.args.s.now in
-    known (stretch state_up 42 54 l) pieces 30 186 l g s c.requires.1 c.requires.0 (flat l g s)
+    known (stretch state_up 42 54 l) pieces 30 186 l g s (search (rules, c.well_formed)) c.requires.0 (flat l g s)
     (into c.put_high.ensures
     (into c.put_high-2.ensures
     (into c.put_high-3.ensures

@@ -13,13 +13,11 @@ pub loop-k-preserved : goal.loop-k-preserved
 loop-k-preserved c =
     let a = c.args in
     let l = c.loop-k in
-    let n = c.wide-n.ensures in
-    let byte = c.shared_slice_known-in-loop-k-1.given l.k in
+    let n = c.from-n.ensures in
     let within : l.k < length l.to = omega arith in (
-      omega arith,
-      omega (arith, byte),
-      simp length-set l.invariant.2,
-      instants_next_lem a.gaps.now a.s.now l.to l.k l.i (cons_at a.gaps.now l.k (omega arith) n) within c.u64_at.ensures ∙ l.invariant.3,
+      omega (arith, c.type_inv.gaps l.k),
+      simp length-set l.invariant.1,
+      instants_next_lem a.gaps.now a.s.now l.to l.k l.i (cons_at a.gaps.now l.k (omega arith) n) within c.u64_at.ensures ∙ l.invariant.2,
     )
 
 pub returns : goal.returns
@@ -31,4 +29,4 @@ returns c =
     sym (take_all l.k l.to (omega arith))
     ∙ sym (append-nil (take l.k l.to))
     ∙ ap (λ (g : List ℕ). take l.k l.to ++ instants_at 8 g (drop l.i a.s.now)) (sym none)
-    ∙ l.invariant.3
+    ∙ l.invariant.2

@@ -1,4 +1,4 @@
-use Prim.Native.Nat.{◌+◌, ◌*◌, ◌-◌, ◌≤◌}
+use Prim.Native.Nat.{◌+◌, ◌*◌, ◌≤◌}
 use mathlib.Core.Path.{◌≡◌}
 use mathlib.Core.List.{◌++◌}
 use lib.ListN.{length, take, drop}
@@ -6,7 +6,4 @@ use Rattle.frame_wide.specs.Resized.{instants_at}
 use Rattle.frame_wide.proofs.instants.Given as goal
 
 abbrev pub invariant-loop-k : goal.invariant-loop-k
-invariant-loop-k l = (l.k ≤ length l.gaps) × (l.i ≤ 4 + 263 * l.k) × (length l.to ≡ length l.initial.to) × (take l.k l.to ++ instants_at 8 (drop l.k l.gaps) (drop l.i l.s) ≡ instants_at 8 l.gaps (drop 4 l.s))
-
-abbrev pub decreases-loop-k : goal.decreases-loop-k
-decreases-loop-k l = length l.gaps - l.k
+invariant-loop-k l = (l.i ≤ 4 + 263 * l.k) × (length l.to ≡ length l.initial.to) × (take l.k l.to ++ instants_at 8 (drop l.k l.gaps) (drop l.i l.s) ≡ instants_at 8 l.gaps (drop 4 l.s))

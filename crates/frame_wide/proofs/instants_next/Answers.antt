@@ -12,9 +12,9 @@ returns c =
     let a = c.args in
     let l = c.loop-k in
     let all : l.k ≡ 24 = omega arith in
-    let timers : l.r ≡ stayed a.s.now a.x a.x a.reading 24 = l.invariant.2 ∙ ap (stayed a.s.now a.x a.x a.reading) all in
-    let long : length a.x ≡ 30 = search rules in
-    let last = c.wide_number-3.ensures ∙ ap (λ (b : Bool). cond b (get_or a.x 29 0) a.reading) c.epoch_stays.ensures in
+    let timers : l.r ≡ stayed a.s.now a.x.now a.x.now a.step.now.reading 24 = l.invariant.1 ∙ ap (stayed a.s.now a.x.now a.x.now a.step.now.reading) all in
+    let long : length a.x.now ≡ 30 = search rules in
+    let last = c.wide_number-3.ensures ∙ ap (λ (b : Bool). cond b (get_or a.x.now 29 0) a.step.now.reading) c.epoch_stays.ensures in
     (λ q.
     set
     (set
@@ -26,4 +26,4 @@ returns c =
     (c.wide_number-2.ensures q))
     29
     (last q))
-    ∙ all_stored a.s.now a.x a.reading a.position a.dist a.fault a.third long
+    ∙ all_stored a.s.now a.x.now a.step.now.reading a.step.now.position a.step.now.distance a.step.now.fault a.step.now.third_fault long

@@ -9,6 +9,7 @@ use Rattle.wire.proofs.Stores.{Piece, put, after, done, into}
 use Rattle.frame_wide.specs.Resized.{narrowed}
 use Rattle.frame_wide.specs.WideState.{state_gaps, state_on}
 use Rattle.frame_wide.proofs.Places.{low_at, known, stretch}
+use borrow.Author.Rules.{rules}
 use Rattle.frame_wide.proofs.low_fifth.Goals as goal
 
 abbrev pieces : List ℕ → List ℕ → List Piece
@@ -30,7 +31,7 @@ returns c =
     let l = c.args.to.now in
     let g = c.args.given.now in
     let s = c.args.s.now in
-    known (stretch state_on 116 18 l) pieces 30 306 l g s c.requires.1 c.requires.0 (flat l g s)
+    known (stretch state_on 116 18 l) pieces 30 306 l g s (search (rules, c.well_formed)) c.requires.0 (flat l g s)
     (into c.put_low.ensures
     (into c.put_low-2.ensures
     (into c.put_byte.ensures

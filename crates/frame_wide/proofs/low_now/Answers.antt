@@ -9,6 +9,7 @@ use Rattle.wire.proofs.Stores.{Piece, put, after, done, into}
 use Rattle.frame_wide.specs.Resized.{narrowed}
 use Rattle.frame_wide.specs.WideTelemetry.{telemetry_gaps, telemetry_on}
 use Rattle.frame_wide.proofs.Places.{low_at, known, stretch}
+use borrow.Author.Rules.{rules}
 use Rattle.frame_wide.proofs.low_now.Goals as goal
 
 abbrev pieces : List ℕ → List ℕ → List Piece
@@ -30,7 +31,7 @@ returns c =
     let l = c.args.to.now in
     let s = c.args.s.now in
     let g = c.args.given.now in
-    known (stretch telemetry_on 4 46 l) pieces 11 150 l g s c.requires.1 c.requires.0 (flat l g s)
+    known (stretch telemetry_on 4 46 l) pieces 11 150 l g s (search (rules, c.well_formed)) c.requires.0 (flat l g s)
     (into c.put_four.ensures
     (into c.put_low.ensures
     (into c.put_part.ensures

@@ -2,7 +2,7 @@
 use Prim.Native.Nat.{ℕ}
 use mathlib.Core.Path.{◌≡◌, refl}
 use mathlib.Core.List.{List, [], ◌∷◌}
-use lib.ListN.{length, take, drop, replicate}
+use lib.ListN.{take, drop, replicate}
 use Rattle.wire.specs.Fields.{u8_at, number_at, le_bytes, le16, elements_from, bytes_from}
 use Rattle.wire.specs.Frame.{frame_head}
 use Rattle.wire.proofs.Stores.{Piece, put, after, done, into}
@@ -29,9 +29,8 @@ flat given s = refl
 pub returns : goal.returns
 returns c =
     let s = c.args.s.now in
-    let g = c.args.given in
-    let long : length g ≡ 30 = search (rules, c.well_formed) in
-    known state_on pieces 30 306 (replicate 186 0) g s long c.requires (flat g s)
+    let g = c.args.given.now in
+    known state_on pieces 30 306 (replicate 186 0) g s (search (rules, c.well_formed)) c.requires (flat g s)
     (into c.put_head.ensures
     (into c.low_first.ensures
     (into c.low_second.ensures

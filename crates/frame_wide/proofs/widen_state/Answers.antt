@@ -37,9 +37,8 @@ pub returns : goal.returns
 returns c =
     let l = c.args.to.now in
     let s = c.args.low.now in
-    let g = c.args.given in
-    let long : length g ≡ 30 = search (rules, c.well_formed) in
-    known (λ x y. state_up x y ++ drop 306 l) pieces 30 186 l g s long c.requires.0 (flat l g s ∙ laid_out l g s c.requires.1)
+    let g = c.args.given.now in
+    known (λ x y. state_up x y ++ drop 306 l) pieces 30 186 l g s (search (rules, c.well_formed)) c.requires.0 (flat l g s ∙ laid_out l g s c.requires.1)
     (into c.put_head.ensures
     (into c.high_first.ensures
     (into c.high_second.ensures

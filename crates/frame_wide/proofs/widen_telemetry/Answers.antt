@@ -33,4 +33,4 @@ returns c =
     let place : length a.low.now + 4 * length c.telemetry_gaps-gaps.result ≡ 150 = omega (arith, c.requires.0) in
     let back : drop (length a.low.now + 4 * length c.telemetry_gaps-gaps.result) c.put_head.new.s ≡ drop 150 a.to.now =
     (λ q. drop (place q) (head q)) ∙ head_behind a.to.now 9 148 146 room in
-    c.widen.ensures ∙ (λ q. (front q ++ widened (gaps q) a.given (drop 4 a.low.now)) ++ back q)
+    c.widen.ensures ∙ (λ q. (front q ++ widened (gaps q) a.given.now (drop 4 a.low.now)) ++ back q)

@@ -1,26 +1,22 @@
--- `mixture::ends_in` meets its contract. The invariant: `count` is how many of the numbers below `n` end in the action. Assumes nothing.
-use mathlib.Core.Path.{◌≡◌, refl, ap, ◌∙◌}
-use native.Mathlib.Omega.{arith}
-use borrow.Author.Rules.{rules}
-use Rattle.mixture.specs.Mixtures.{ends_one}
-use Rattle.mixture.proofs.Numbered.{ends_below, below_next, one_at_most, all_below}
+-- `mixture::ends_in` meets its contract: the mixtures of the numbers below 200 are all mixtures, in their order. Assumes nothing.
+use Rattle.std.proofs.Common.{◌≡◌, ◌∙◌, rules, map, refl, ap, count_by}
+use Rattle.std.specs.List.{range_with_len}
+use Rattle.std.proofs.lemmas.Iterator.{YieldsList-from_range, YieldsList-from_map}
+use Rattle.std.proofs.lemmas.Iterator.Consumers.{YieldsList-at, YieldsList-from_filter, count_from_yields_List}
+use Rattle.std.proofs.lemmas.List.Sums.{length-filter}
+use Rattle.mixture.specs.Mixtures.{mixtures, mixture_at, ends, ends_in}
 use Rattle.mixture.proofs.ends_in.Goals as goal
 
-pub loop-n-init : goal.loop-n-init
-unfolding ends_below
-loop-n-init c = (refl, search rules, search rules)
-
-pub overflow_add-count : goal.overflow_add-count
-overflow_add-count c = omega (arith, c.ends_one-count.ensures, one_at_most c.args.a c.mixture_at.result)
-
-pub loop-n-preserved : goal.loop-n-preserved
-loop-n-preserved c =
-    let one = one_at_most c.args.a c.mixture_at.result in
-    let sum = below_next c.args.a c.loop-n.n in
-    let next = ap (ends_one c.args.a) c.mixture_at.ensures in
-    (omega (arith, c.ends_one-count.ensures, next, sum), omega (arith, c.ends_one-count.ensures, one), search rules)
+numbered : map mixture_at (range_with_len 0 200) ≡ mixtures
+unfolding mixture_at
+numbered = refl
 
 pub returns : goal.returns
+unfolding ends ends_in
 returns c =
-    let all : c.loop-n.n ≡ 200 = omega arith in
-    c.loop-n.invariant.0 ∙ ap (ends_below c.args.a) all ∙ all_below c.args.a
+    count_from_yields_List c.filter.result _ c.count.ensures.ran
+    (YieldsList-from_filter _ (ends c.args.a)
+    (YieldsList-at c.filter.ensures.source (YieldsList-from_map _ mixture_at (YieldsList-at c.map.ensures.source (YieldsList-from_range 0 200 200 refl refl)) c.map.ensures.closure (λ x r q k. search rules)))
+    c.filter.ensures.closure (λ x b q k. search rules))
+    ∙ length-filter (ends c.args.a) (map mixture_at (range_with_len 0 200))
+    ∙ ap (count_by (ends c.args.a)) numbered

@@ -1,9 +1,9 @@
 -- `options::option_f32_at` meets its contract. Assumes nothing.
+use Rattle.std.specs.Prelude.{Some}
 use Rattle.options.specs.Options.{option_f32_at}
 use mathlib.Core.Path.{◌∙◌, sym}
 use native.Mathlib.Omega.{arith}
 use Rattle.wire.proofs.Past.{flag_inside}
-use Rattle.types.specs.declared.OptionF32.TheVariants.{Some}
 use Rattle.options.proofs.option_f32_at.Goals as goal
 
 pub overflow_add-at : goal.overflow_add-at

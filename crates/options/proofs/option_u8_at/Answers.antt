@@ -1,9 +1,9 @@
 -- `options::option_u8_at` meets its contract. Assumes nothing.
+use Rattle.std.specs.Prelude.{Some}
 use Rattle.options.specs.Options.{option_u8_at}
 use mathlib.Core.Path.{◌∙◌, sym}
 use native.Mathlib.Omega.{arith}
 use Rattle.wire.proofs.Past.{flag_inside}
-use Rattle.types.specs.declared.OptionU8.TheVariants.{Some}
 use Rattle.options.proofs.option_u8_at.Goals as goal
 
 pub overflow_add-at : goal.overflow_add-at

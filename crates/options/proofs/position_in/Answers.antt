@@ -1,6 +1,6 @@
 -- `options::position_in` meets its contract. Assumes nothing.
+use Rattle.std.specs.Prelude.{Some}
 use borrow.Author.Tests.{eq-eqb, ne_eqb}
-use Rattle.types.specs.declared.OptionPositionSample.TheVariants.{Some}
 use Rattle.wire.specs.Fields.{flag_at, u8_at}
 use Rattle.options.specs.Position.{option_position_at}
 use Rattle.options.proofs.position_in.Goals as goal

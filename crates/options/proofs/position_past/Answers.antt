@@ -1,9 +1,9 @@
 -- `options::position_past` meets its contract. Assumes nothing.
+use Rattle.std.specs.Prelude.{Some}
 use Rattle.options.specs.Position.{option_position_at}
 use mathlib.Core.Path.{◌∙◌, sym}
 use native.Mathlib.Omega.{arith}
 use Rattle.wire.proofs.Past.{flag_inside}
-use Rattle.types.specs.declared.OptionPositionSample.TheVariants.{Some}
 use Rattle.options.proofs.position_past.Goals as goal
 
 pub overflow_add-at : goal.overflow_add-at

@@ -1,5 +1,5 @@
 -- `options::put_option_u32` meets its contract. Assumes nothing.
-use Rattle.types.specs.declared.OptionU32.{OptionU32}
+use Rattle.std.specs.Prelude.{Option, ℕ}
 use Rattle.wire.specs.Fields.{le_flag, le32}
 use Rattle.options.specs.Options.{le_option_u32}
 use mathlib.Core.Path.{◌∙◌, sym, ap}
@@ -13,20 +13,20 @@ pub returns-in-Some : goal.returns-in-Some
 unfolding le_option_u32 le_flag
 returns-in-Some c =
     let a = c.args in
-    c.put_flagged.ensures ∙ sym (ap (λ (o : OptionU32). sets a.s.now a.at (le_option_u32 o)) c.in-Some.is)
+    c.put_flagged.ensures ∙ sym (ap (λ (o : Option ℕ). sets a.s.now a.at (le_option_u32 o)) c.in-Some.is)
 
 pub returns-in-None : goal.returns-in-None
 unfolding le_option_u32 le_flag
 returns-in-None c =
     let a = c.args in
-    c.put_flagged-in-None.ensures ∙ sym (ap (λ (o : OptionU32). sets a.s.now a.at (le_option_u32 o)) c.in-None.is)
+    c.put_flagged-in-None.ensures ∙ sym (ap (λ (o : Option ℕ). sets a.s.now a.at (le_option_u32 o)) c.in-None.is)
 
 pub returns-else-at-s-2 : goal.returns-else-at-s-2
 unfolding le_option_u32 le_flag
 returns-else-at-s-2 c =
     let a = c.args in
-    let some = c.is_some_u32 in
-    let value = c.u32_or_zero in
+    let some = c.is_some in
+    let value = c.unwrap_or in
     joined a.s.now a.at (le_flag some.result) (le32 value.result) c.put_flag.ensures c.put_u32.ensures ∙ (λ j. sets a.s.now a.at (le_flag (some.ensures j) ++ le32 (value.ensures j)))
 
 pub returns-else-at-s : goal.returns-else-at-s

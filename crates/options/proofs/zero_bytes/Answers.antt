@@ -16,7 +16,7 @@ loop-i-preserved c =
     let s = a.s.now in
     let l = c.loop-i in
     let j = a.at + l.i in
-    (omega arith, zeros_turn 1 s a.at a.n l.i l.zero (eqb (u8_at s j) 0) (omega arith) (sym (zeros_u8 s j)) l.invariant.1)
+    zeros_turn 1 s a.at a.n l.i l.zero (eqb (u8_at s j) 0) (omega arith) (sym (zeros_u8 s j)) l.invariant
 
 pub returns : goal.returns
 returns c =
@@ -24,4 +24,4 @@ returns c =
     let s = a.s.now in
     let l = c.loop-i in
     let m : a.n - l.i ≡ 0 = omega arith in
-    sym (l.invariant.1 ∙ ap (λ (b : Bool). l.zero && b) (ap (zeros s (a.at + l.i)) m ∙ zeros_none s (a.at + l.i)) ∙ and-true l.zero)
+    sym (l.invariant ∙ ap (λ (b : Bool). l.zero && b) (ap (zeros s (a.at + l.i)) m ∙ zeros_none s (a.at + l.i)) ∙ and-true l.zero)

@@ -1,6 +1,7 @@
 -- `spelling::rules` meets its contract: the answer does not hang on the polygon that is held. Assumes nothing.
 use mathlib.Core.Path.{◌∙◌}
-use Rattle.corners.specs.Acceptance.{result_and, judged}
+use Rattle.std.specs.Result.{result_and}
+use Rattle.corners.specs.Acceptance.{judged}
 use Rattle.geometry.specs.Polygon.{polygon_new, geofence_new}
 use Rattle.frame_fence.specs.FenceFrame.{fence_rules, fence_of}
 use Rattle.spelling.proofs.rules.Goals as goal

@@ -10,4 +10,4 @@ returns-then-takes_areas c = rw (← c.takes_areas.ensures, c.if-takes_areas.tru
 
 pub returns-else-takes_areas : goal.returns-else-takes_areas
 unfolding answer_frame
-returns-else-takes_areas c = rw (← c.takes_areas.ensures, c.if-takes_areas.false) record { value = c.step_frame.ensures.value; out_after = c.step_frame.ensures.out_after; held_after = kept (read_telemetry c.args.frame.now) c.args.f c.args.s c.args.areas c.args.held.now c.args.out.now _ c.requires.areas_bound c.requires.in_bounds c.step_frame.ensures.value }
+returns-else-takes_areas c = rw (← c.takes_areas.ensures, c.if-takes_areas.false) record { value = c.step_frame.ensures.value; out_after = c.step_frame.ensures.out_after; held_after = kept (read_telemetry c.args.frame.now) c.args.flight.now c.args.supervisor.now c.args.areas c.args.held.now c.args.out.now _ c.requires.areas_bound c.requires.in_bounds c.step_frame.ensures.value }

@@ -1,29 +1,52 @@
--- `stream::fly_within` meets its contract. The invariant: `n` is the next frame, what is behind the bytes put is as it was, the areas held fit their slice, and
--- what is left to do makes the same whole. The measure is the count of turns. Assumes nothing.
+-- `stream::fly_within` meets its contract. The invariant: what is behind the bytes put is as it was, the areas held fit their slice, and what is left to do makes
+-- the same whole. Assumes nothing.
+use Prim.Native.Nat.{◌+◌, ◌-◌, zero-le}
 use native.Mathlib.Omega.{arith}
-use mathlib.Core.Path.{sym, ◌∙◌}
+use mathlib.Core.Path.{◌≡◌, sym, ◌∙◌, refl}
 use lib.ListN.{length}
 use Rattle.stream.specs.Stream.{progress, fly_frames}
 use Rattle.stream.proofs.Frames.{room_next, drop-later, again, halts, spent, ends}
 use Rattle.stream.proofs.fly_within.Goals as goal
 
+pub loop-turn-init : goal.loop-turn-init
+unfolding fly_frames
+loop-turn-init c =
+    let all : length c.args.input.now - 0 ≡ length c.args.input.now = omega arith in
+    record { taken = zero-le; put = zero-le; room = refl; behind = refl; areas = c.requires.areas_bound; space = refl; same = rw all refl }
+
 pub fly_next-p-requires : goal.fly_next-p-requires
 fly_next-p-requires c =
-    let l = c.loop-turns in
-    record { n_in_bounds = l.invariant.1; put_in_bounds = room_next l.p c.args.input.now l.out l.held _ l.invariant.2 l.invariant.0 c.if-n-gt0.true; areas_bound = l.invariant.5; in_bounds = omega (arith, l.invariant.6, c.requires.in_bounds) }
+    let l = c.loop-turn in
+    record {
+      n_in_bounds = c.next_of-n.ensures.result_in_bounds;
+      put_in_bounds = room_next l.p c.args.input.now l.out l.held _ l.invariant.put (c.next_of-n.ensures.by_index l.held) (omega arith);
+      areas_bound = l.invariant.areas;
+      in_bounds = omega (arith, l.invariant.space, c.requires.in_bounds);
+    }
 
-pub loop-turns-preserved : goal.loop-turns-preserved
-loop-turns-preserved c =
-    let l = c.loop-turns in
+pub loop-turn-preserved : goal.loop-turn-preserved
+loop-turn-preserved c =
+    let l = c.loop-turn in
     let a = c.fly_next-p in
-    (c.next_of-n-in-loop-turns.ensures.by_index _, c.next_of-n-in-loop-turns.ensures.result_in_bounds, a.ensures.taken_in_bounds.2, a.auto.out ∙ l.invariant.3, a.ensures.out_unchanged ∙ drop-later _ _ _ _ a.ensures.taken_in_bounds.1 l.invariant.4, a.ensures.taken_in_bounds.3, a.auto.held ∙ l.invariant.6, again l.turns c.args.f c.args.input.now (length c.args.out.now) (progress l.p l.out l.held) _ l.n _ a.ensures.held_after (rw l.invariant.3 at l.invariant.0) c.if-n-gt0.true c.loop-turns-test.true l.invariant.7)
+    let one : length c.args.input.now - (l._turn + 1) ≡ length c.args.input.now - l._turn - 1 = omega arith in
+    record {
+      taken = a.ensures.taken_in_bounds.0;
+      put = a.ensures.taken_in_bounds.2;
+      room = a.auto.out ∙ l.invariant.room;
+      behind = a.ensures.out_unchanged ∙ drop-later _ _ _ _ a.ensures.taken_in_bounds.1 l.invariant.behind;
+      areas = a.ensures.taken_in_bounds.3;
+      space = a.auto.held ∙ l.invariant.space;
+      same = rw one (again _ c.args.flight.now c.args.input.now (length c.args.out.now) (progress l.p l.out l.held) _ c.next_of-n.result _ a.ensures.held_after (rw l.invariant.room at (c.next_of-n.ensures.by_index l.held)) (omega arith) (omega arith) l.invariant.same);
+    }
 
-pub returns-else-n-gt0 : goal.returns-else-n-gt0
-unfolding fly_frames
-returns-else-n-gt0 c =
-    let l = c.loop-turns in let all = ends l.p l.out l.held c.args.out.now _ (sym (halts l.turns c.args.f c.args.input.now (length c.args.out.now) _ _ (rw l.invariant.3 at l.invariant.0) c.if-n-gt0.false) ∙ l.invariant.7) l.invariant.2 l.invariant.3 l.invariant.4 l.invariant.5 (omega (arith, l.invariant.6, c.requires.in_bounds)) (omega (arith, l.invariant.1)) in record { value = all.0; out_after = all.1.0; held_after = all.1.1.0; taken_in_bounds = all.1.1.1 }
+pub returns-then-n-eq0 : goal.returns-then-n-eq0
+returns-then-n-eq0 c =
+    let l = c.loop-turn in
+    let all = ends l.p l.out l.held c.args.out.now _ (sym (halts (length c.args.input.now - l._turn) c.args.flight.now c.args.input.now (length c.args.out.now) _ c.next_of-n.result (rw l.invariant.room at (c.next_of-n.ensures.by_index l.held)) (omega arith)) ∙ l.invariant.same) l.invariant.put l.invariant.room l.invariant.behind l.invariant.areas (omega (arith, l.invariant.space, c.requires.in_bounds)) l.invariant.taken in
+    record { value = all.0; out_after = all.1.0; held_after = all.1.1.0; taken_in_bounds = all.1.1.1 }
 
-pub returns-after-loop-turns : goal.returns-after-loop-turns
-unfolding fly_frames
-returns-after-loop-turns c =
-    let l = c.loop-turns in let all = ends l.p l.out l.held c.args.out.now _ (sym (spent l.turns c.args.f c.args.input.now (length c.args.out.now) _ (omega arith)) ∙ l.invariant.7) l.invariant.2 l.invariant.3 l.invariant.4 l.invariant.5 (omega (arith, l.invariant.6, c.requires.in_bounds)) (omega (arith, l.invariant.1)) in record { value = all.0; out_after = all.1.0; held_after = all.1.1.0; taken_in_bounds = all.1.1.1 }
+pub returns : goal.returns
+returns c =
+    let l = c.loop-turn in
+    let all = ends l.p l.out l.held c.args.out.now _ (sym (spent (length c.args.input.now - l._turn) c.args.flight.now c.args.input.now (length c.args.out.now) _ (omega arith)) ∙ l.invariant.same) l.invariant.put l.invariant.room l.invariant.behind l.invariant.areas (omega (arith, l.invariant.space, c.requires.in_bounds)) l.invariant.taken in
+    record { value = all.0; out_after = all.1.0; held_after = all.1.1.0; taken_in_bounds = all.1.1.1 }

@@ -1,6 +1,6 @@
 -- `telemetry_reader::option_gps_at` meets its contract. Assumes nothing.
+use Rattle.std.specs.Prelude.{Some}
 use mathlib.Core.Path.{◌∙◌, sym}
-use Rattle.types.specs.declared.OptionGpsSample.TheVariants.{Some}
 use Rattle.frame_telemetry.specs.Readings.{option_gps_at}
 use Rattle.telemetry_reader.proofs.option_gps_at.Goals as goal
 

@@ -1,7 +1,7 @@
 -- `telemetry_reader::position_at` meets its contract. Assumes nothing.
+use Rattle.std.specs.Prelude.{Some}
 use mathlib.Core.Path.{◌∙◌, sym}
 use Rattle.options.specs.Position.{vec3_at, option_position_at}
-use Rattle.types.specs.declared.OptionPositionSample.TheVariants.{Some}
 use Rattle.telemetry_reader.proofs.position_at.Goals as goal
 
 pub returns-then-flag_at : goal.returns-then-flag_at

@@ -1,12 +1,12 @@
 -- `telemetry_reader::stamped_landed_at` meets its contract. Assumes nothing.
+use Rattle.std.specs.Prelude.{Some}
 use mathlib.Core.Path.{◌∙◌, sym}
-use Rattle.types.specs.declared.OptionStampedLandedState.TheVariants.{Some}
 use Rattle.frame_telemetry.specs.Readings.{stamped_landed_at}
 use Rattle.telemetry_reader.proofs.stamped_landed_at.Goals as goal
 
 pub returns-then-flag_at : goal.returns-then-flag_at
 unfolding stamped_landed_at
-returns-then-flag_at c = simp (sym c.flag_at.ensures ∙ c.if-flag_at.true) (λ j. Some (c.u32_at.ensures j) (c.landed_at.ensures j))
+returns-then-flag_at c = simp (sym c.flag_at.ensures ∙ c.if-flag_at.true) (λ j. Some (record { t_ms = c.u32_at.ensures j; value = c.landed_at.ensures j }))
 
 pub returns-else-flag_at : goal.returns-else-flag_at
 unfolding stamped_landed_at

@@ -16,6 +16,6 @@ returns c =
     let n = c.now_of-now_ms.ensures in
     λ j.
     record {
-      telemetry = (c.telemetry_of-telemetry.ensures ∙ (λ k. telemetry_of (n k) (d k))) j;
+      telemetry = (c.telemetry_of.ensures ∙ (λ k. telemetry_of (n k) (d k))) j;
       generator = record { x = (ap (λ (l : List ℕ). get_or l 37 0) d ∙ last (fields_from c.args.g)) j; now_ms = n j; begun = true };
     }

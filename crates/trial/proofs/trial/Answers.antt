@@ -28,14 +28,14 @@ returns c =
     let sound : generator_fault g ≡ 0 = omega (arith, c.generator_fault-fault.ensures) in
     let room : 106 ≤ length o = omega arith in
     let e = makes g o sound room in
-    let n : c.next_frame-t.result ≡ next_frame (generator_at g) = c.next_frame-t.ensures ∙ ap next_frame c.generator_at.ensures in record {
+    let n : c.next_frame-next.result ≡ next_frame (generator_at g) = c.next_frame-next.ensures ∙ ap next_frame c.generator_at.ensures in record {
       value = sym (ap (λ (r : TrialCall). r.number) e);
       generator_after = c.put_generator.ensures
-          ∙ filled g c.next_frame-t.result.generator (nine g sound)
+          ∙ filled g c.next_frame-next.result.generator (nine g sound)
           ∙ ap (λ (r : NextFrame). generator_bytes r.generator) n
           ∙ sym (ap (λ (r : TrialCall). r.generator) e);
       output_after = c.write_telemetry.ensures.1
-          ∙ frame_first c.next_frame-t.result.telemetry o room
+          ∙ frame_first c.next_frame-next.result.telemetry o room
           ∙ ap (λ (r : NextFrame). telemetry_frame r.telemetry ++ drop 106 o) n
           ∙ sym (ap (λ (r : TrialCall). r.output) e);
     }

@@ -3,23 +3,6 @@ use Rattle.timers.specs.Timer.{raised_by}
 use Rattle.triggers.specs.Update.{raised_of}
 use Rattle.triggers.proofs.raised_of.Goals as goal
 
-pub returns-then-keeps : goal.returns-then-keeps
-unfolding raised_of
-returns-then-keeps c =
-    rw c.if-keeps.true (
-    λ i.
-    record {
-      gps_degraded = c.raised_by.ensures i;
-      gps_lost = c.raised_by-then-keeps.ensures i;
-      ekf_unhealthy = c.raised_by-then-keeps-2.ensures i;
-      fence_breach = c.raised_by-then-keeps-3.ensures i;
-      altitude_min = c.raised_by-then-keeps-4.ensures i;
-      battery_warn = c.raised_by-then-keeps-5.ensures i;
-      battery_low = c.raised_by-then-keeps-6.ensures i;
-      energy_rtl_marginal = c.raised_by-then-keeps-7.ensures i;
-    })
-
--- what was raised before plays no part
 pub returns-else-keeps : goal.returns-else-keeps
 unfolding raised_of raised_by
 returns-else-keeps c =

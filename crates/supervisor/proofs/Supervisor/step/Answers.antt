@@ -13,4 +13,4 @@ by_lengths : (l : List Point2) → (λ (p : Point2). clearance_at [] (nearest_by
 by_lengths l i p = (none_near (nearest_by l (side_lengths l).m p) p ∙ by_side_lengths l p) i
 
 pub returns : goal.returns
-returns c = rw (c.step_by.ensures, c.side_lengths-lengths.ensures, by_lengths (ring_of c.args.fence.poly))
+returns c = rw (c.step_by.ensures, c.side_lengths-lengths.ensures, by_lengths (ring_of c.args.fence.now.poly))

@@ -4,4 +4,4 @@ use Rattle.types.proofs.ActiveSet.clear.Goals as goal
 
 pub returns : goal.returns
 unfolding clear_request
-returns c = simp (c.index-i.ensures, c.no_request-s.ensures)
+returns c = simp c.index.ensures

@@ -4,4 +4,4 @@ use Rattle.types.proofs.ActiveSet.set.Goals as goal
 
 pub returns : goal.returns
 unfolding set_request
-returns c = simp c.index-i.ensures
+returns c = simp c.index.ensures

@@ -1,7 +1,0 @@
--- `trial::landed_of` meets its contract. Assumes nothing.
-use Rattle.trial.specs.Draws.{landed_of, case_of}
-use Rattle.trial.proofs.landed_of.Goals as goal
-
-pub returns-in-Some : goal.returns-in-Some
-unfolding landed_of case_of
-returns-in-Some c = rw (← c.from_number-o.ensures, c.in-Some.is)
