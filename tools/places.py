@@ -3,6 +3,7 @@
 
   tools/places.py          the counts
   tools/places.py POINT    the places of a point, a line each
+  tools/places.py again    the places of points 1 to 4, 6 and 7 found in another way: by bodies and types, not by names
 """
 import collections
 import glob
@@ -116,7 +117,52 @@ POINTS = {
     "8": ("files of answers", proofs),
 }
 
-if len(sys.argv) > 1:
+def bodies():
+    """Each function: where, name, body with its head."""
+    for path in FILES:
+        text = open(path, encoding="utf-8").read()
+        for m in re.finditer(r"^( *)(?:pub )?(?:const )?(?:extern \"C\" )?fn (\w+)", text, re.M):
+            end = re.search(rf"^{m.group(1)}}}$", text[m.end() :], re.M)
+            yield f"{path}:{text.count(chr(10), 0, m.start()) + 1}", m.group(2), text[m.end() : m.end() + end.end()] if end else ""
+
+
+def again():
+    """By what stands in bodies and types, and not by names."""
+    found = collections.defaultdict(list)
+    shapes = collections.defaultdict(list)
+    for where, name, text in bodies():
+        code = re.sub(r"//.*", "", text)
+        body = code[code.find("\n{") :] if "\n{" in code else code[code.find("{") :]
+        result = re.search(r"->\s*(\w+)", code)
+        if result and result.group(1) in ("u8", "u16", "u32") and re.search(r"return \d+;|\{ \d+ \} else|=> \d+,", body):
+            found["1 a literal number answered"].append(f"{where} {name}")
+        if re.search(r"\bwhile\b|\bloop\b", body):
+            found["3 while and loop"].append(f"{where} {name}")
+        if re.search(r"for \w+ in 0\.\.", body) and re.search(r"\w\[\w+\]", body):
+            found["3 a for that indexes"].append(f"{where} {name}")
+        if re.search(r"match \(\w+, \w+\)|\.number\(\) ==|as u(8|16|32|64|size)\b", body):
+            found["4 casts and comparisons by parts"].append(f"{where} {name}")
+        if body.count("\n") > 5:
+            shape = re.sub(r"\b\d[\d_.]*\b", "0", re.sub(r"\b[a-zA-Z_]\w*\b", "w", " ".join(body.split())))
+            shapes[(where.split("/")[1], shape)].append(f"{where} {name}")
+    for group in shapes.values():
+        if len(group) > 1:
+            found["2 bodies of one shape"] += group
+    for where, line in lines():
+        if re.search(r"^    (pub )?\w+: (Result|bool),", line):
+            found["1 a flag or a result in a struct"].append(f"{where} {line.strip()}")
+        if re.search(r"^    (pub )?\w+: \[\w+; \d+\],", line):
+            found["6 an array in a struct"].append(f"{where} {line.strip()}")
+        if re.search(r"fn \w+.*\bbool\b", line) and not line.strip().startswith("//"):
+            found["7 a bool handed in, on a head of one line"] += [f"{where} {line.strip()}"] if re.search(r": bool", line) else []
+    return found
+
+
+if sys.argv[1:] == ["again"]:
+    for what, places in sorted(again().items()):
+        print(f"{len(places):4}  {what}")
+        print("\n".join("      " + place for place in places))
+elif len(sys.argv) > 1:
     print("\n".join(POINTS[sys.argv[1]][1]()))
 else:
     for point, (what, places) in POINTS.items():

@@ -81,10 +81,20 @@ def definition(crate, name, arguments):
     return None
 
 
+def reading(reader):
+    """The text of a reader's definition. One that is another's at a reader of values, as option_at u8_at, is the other's text with that reader in it."""
+    crates = ("options", "frame_telemetry")
+    body = next(filter(None, (definition(crate, reader, "s i") for crate in crates)), "")
+    of = re.fullmatch(r"\s*(\w+_at) (\w+_at) s i\s*", body)
+    if of is None:
+        return body
+    whole = next(filter(None, (definition(crate, of[1], "value s i") for crate in crates)), "")
+    return re.sub(r"\bvalue s ", f"{of[2]} s ", whole)
+
+
 def within(reader):
     """What a reading is made of: each part's name, its reader and its distance from the reading's first byte. Empty for a plain number."""
-    bodies = [definition(crate, reader, "s i") for crate in ("options", "frame_telemetry")]
-    body = next((body for body in bodies if body and "s (i + " in body), "")
+    body = reading(reader) if "s (i + " in reading(reader) else ""
     parts = [("", "flag_at", 0)] if "cond (flag_at s i)" in body else []
     fields = re.findall(r"«?(\w+)»? = (\w+_at) s (?:i|\(i \+ (\d+)\))(?=[ ;])", body)
     if fields:

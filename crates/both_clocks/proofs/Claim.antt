@@ -1,6 +1,6 @@
 -- The claim for every list of pairs of calls: each pair that steps is one step on both clocks (alike's `both_step`). Assumes nothing.
 use Prim.Native.Nat.{ℕ, ◌^◌, ◌<◌}
-use mathlib.Core.Bool.{Bool, true, false, ◌&&◌, cond}
+use mathlib.Core.Bool.{Bool, true, false}
 use mathlib.Core.List.{List, [], ◌∷◌, ◌++◌}
 use mathlib.Core.Logic.{⊎_elim}
 use mathlib.Core.Path.{◌≡◌, refl, ap, sym, subst, ◌∙◌}
@@ -15,10 +15,12 @@ use Rattle.supervisor.specs.Rules.{Rules, RaisedFits}
 use Rattle.supervisor.specs.Step.{step}
 use Rattle.supervisor.proofs.Rules.{step_rules}
 use Rattle.wire.specs.Fields.{Bytes, u8_at, number_at, u16_at, le_bytes, le16}
-use Rattle.wire.specs.Frame.{frame_fault, frame_head}
-use Rattle.wire.proofs.Head.{head_says}
-use Rattle.frame_state.specs.declared.StateRead.{StateRead}
-use Rattle.frame_state.specs.StateFrame.{state_at, state_valid, raised_read, raised_valid, read_state, state_frame, Typed}
+use Rattle.std.specs.Prelude.{Result, Ok, Err}
+use Rattle.wire.specs.declared.FrameError.{FrameError}
+use Rattle.wire.specs.Frame.{frame_number, check_frame, frame_head}
+use Rattle.wire.proofs.Head.{head_says, no_error_zero}
+use Rattle.wire.proofs.Read.{behind_head}
+use Rattle.frame_state.specs.StateFrame.{read_state, state_frame, Typed}
 use Rattle.instants.specs.Retimed.{Instants, supervisor_at, stepped_at, telemetry_at}
 use Rattle.instants.specs.Own.{stamps_of}
 use Rattle.alike.specs.Both.{BothFed, Meets, narrow_step, wide_step, next}
@@ -26,7 +28,10 @@ use Rattle.alike.proofs.Both.{both_step}
 use Rattle.frame_wide.specs.WideState.{read_wide_state, wide_state_frame}
 use Rattle.frame_wide_trips.specs.Claim.{TypedWide}
 use Rattle.calls.specs.Form.{base, wide, settings_of, form_of}
-use Rattle.calls.specs.Entry.{flight_keeps, StepCall, declined, output_frame, output_size, succeeded, after_state, from_state, refused_first, step_any}
+use Rattle.calls.specs.Entry.{flight_keeps, StepCall, output_frame, output_size, succeeded, after_state, from_state, step_any}
+use Rattle.calls.proofs.Accepted.{accepted}
+use Rattle.flight.specs.declared.Flight.{Flight}
+use Rattle.flight.specs.Flight.{read_flight}
 use Rattle.carry.specs.Carry.{carried}
 use Rattle.calls.specs.Widen.{widen_call}
 use Rattle.calls.proofs.Declined.{declined_keeps}
@@ -46,21 +51,29 @@ kind_5 s = refl
 
 refused_12 : (w : Bool) (c : Call) (s : Supervisor) → (after_state w (base true) (read_state true (state_frame false s)) (flight_of c) c.areas (state_frame false s) c.telemetry c.output).number ≡ 0 → ⊥
 unfolding read_state
-refused_12 w c s z = at (eqb (frame_fault 12 192 (state_frame false s)) 0) (state_valid (state_frame false s) && raised_valid true (state_frame false s)) refl z
+refused_12 w c s z = at (read_state true image) refl z
   where
-    at : (a b : Bool) → eqb (frame_fault 12 192 (state_frame false s)) 0 ≡ a → (after_state w (base true) (cond a (cond b (StateRead.Frame (state_at (state_frame false s) (raised_read true (state_frame false s)))) (StateRead.Refused 4)) (StateRead.Refused (frame_fault 12 192 (state_frame false s)))) (flight_of c) c.areas (state_frame false s) c.telemetry c.output).number ≡ 0 → ⊥
-    at true b p z = eqb-false 5 12 refl (sym (kind_5 s) ∙ (head_says 12 192 (state_frame false s) (eqb-true _ _ p)).0)
-    at false b p z = eqb-false (frame_fault 12 192 (state_frame false s)) 0 p z
+    image : List ℕ
+    image = state_frame false s
+
+    at : (r : Result Supervisor FrameError) → read_state true image ≡ r → (after_state w (base true) r (flight_of c) c.areas image c.telemetry c.output).number ≡ 0 → ⊥
+    at (Ok x) p z = eqb-false 5 12 refl (sym (kind_5 s) ∙ (head_says 12 192 image (ap frame_number (behind_head (check_frame 12 192 image) _ x p).0)).0)
+    at (Err e) p z = no_error_zero e z
 
 -- so a call that steps has a configuration of kind 1
 kind_1 : (c : Call) (s : Supervisor) → (on c (state_frame false s)).number ≡ 0 → flight_keeps (flight_of c) ≡ false
 unfolding step_any form_of
-kind_1 c s z = at (flight_keeps (flight_of c)) (eqb (refused_first (flight_of c) c.areas) 0) refl refl z
+kind_1 c s z = at (flight_keeps f) refl (sym (ap (λ (q : StepCall). q.number) (accepted c.with_side c.areas image c.telemetry c.output (read_flight c.config c.fence) z).call) ∙ z)
   where
-    at : (k a : Bool) → flight_keeps (flight_of c) ≡ k → eqb (refused_first (flight_of c) c.areas) 0 ≡ a → (cond a (from_state c.with_side (form_of k (state_frame false s)) (flight_of c) c.areas (state_frame false s) c.telemetry c.output) (declined (refused_first (flight_of c) c.areas) (state_frame false s) c.output)).number ≡ 0 → flight_keeps (flight_of c) ≡ false
-    at false a p q z = p
-    at true true p q z = absurd (refused_12 c.with_side c s z)
-    at true false p q z = absurd (eqb-false (refused_first (flight_of c) c.areas) 0 q z)
+    image : List ℕ
+    image = state_frame false s
+
+    f : Flight
+    f = flight_of c
+
+    at : (k : Bool) → flight_keeps f ≡ k → (from_state c.with_side (form_of k image) f c.areas image c.telemetry c.output).number ≡ 0 → flight_keeps f ≡ false
+    at false p z = p
+    at true p z = absurd (refused_12 c.with_side c s z)
 
 -- ---- one pair that steps
 
@@ -74,7 +87,7 @@ both_fed p =
     }
 
 -- the held ages, of a state image that is read
-held_in_lem : (now : ℕ) (r : StateRead) (x : Supervisor) → r ≡ StateRead.Frame x → HeldIn HeldRecent now r → HeldRecent now x
+held_in_lem : (now : ℕ) (r : Result Supervisor FrameError) (x : Supervisor) → r ≡ Ok x → HeldIn HeldRecent now r → HeldRecent now x
 held_in_lem now r x e h = subst (HeldIn HeldRecent now) e h
 
 module _ (old : List ℕ) (T : ℕ) (new : List ℕ) (p : Pair) (earlier : List Pair) (fed : FedSame HeldRecent old T new p earlier) (s : Supervisor) (i : Instants) (has : Both s i)
@@ -95,10 +108,10 @@ module _ (old : List ℕ) (T : ℕ) (new : List ℕ) (p : Pair) (earlier : List 
       ap (λ (k : Config). k.keeps_raised) fed.flight.0
       ∙ kind_1 p.narrow s (sym (ap (λ (b : List ℕ). (on p.narrow b).number) nar) ∙ nz)
 
-  narrow_read : read_state false (narrow_bytes old T new earlier) ≡ StateRead.Frame s
+  narrow_read : read_state false (narrow_bytes old T new earlier) ≡ Ok s
   narrow_read = ap (read_state false) nar ∙ value_back (base false) s has.typed has.rules has.fits
 
-  wide_read : read_wide_state (wide_bytes old T new earlier) ≡ StateRead.Frame (supervisor_at i s)
+  wide_read : read_wide_state (wide_bytes old T new earlier) ≡ Ok (supervisor_at i s)
   wide_read = ap read_wide_state wid ∙ value_back wide (supervisor_at i s) has.wide_typed has.wide_rules has.wide_fits
 
   -- the narrow call's own step is that step

@@ -1,5 +1,6 @@
 -- The runs, computed: each meets all that is asked but one thing, and a byte of the latest outputs differs. Assumes nothing.
-use Rattle.std.specs.Prelude.{Option, Some, None}
+use Rattle.wire.specs.declared.FrameError.{FrameError}
+use Rattle.std.specs.Prelude.{Option, Some, None, Result, Ok, Err}
 use Prim.Native.Nat.{ℕ, ◌+◌, ◌-◌, ◌^◌, ◌<◌}
 use mathlib.Core.Bool.{Bool, true, false, ◌&&◌, ◌||◌}
 use mathlib.Core.List.{List, [], ◌∷◌, map}
@@ -31,18 +32,18 @@ use Rattle.disarm.specs.Disarm.{gate_open, hold_from, evaluate}
 use Rattle.clock.specs.Clock.{clock_fault, sound_clock, clock_step}
 use Rattle.supervisor.specs.Step.{sense, decision_of, flown, step}
 use Rattle.wire.specs.Fields.{u8_at, number_at, u16_at, u32_at, f32_at, flag_at, byte_below, le_bytes, le8, le16, le32, le_f32, le_flag}
-use Rattle.wire.specs.Frame.{frame_head, frame_fault, frame_written, room_fault, all_true}
+use Rattle.wire.specs.Frame.{frame_head, frame_written, all_true, check_frame, check_room}
 use Rattle.options.specs.Enums.{action_at, reason_at, le_action, le_reason}
 use Rattle.options.specs.Options.{zeros, valid_option, option_u8_at, option_u32_at, le_option_u32, option_f32_at, le_option_f32}
 use Rattle.options.specs.Position.{vec3_at, le_vec3, option_position_at, le_option_position}
-use Rattle.frame_config.specs.ConfigFrame.{keeps_raised, config_at, read_config, freshness_cells, link_cells, fence_cells, battery_cells, energy_cells, flight_cells, config_cells, config_frame}
-use Rattle.frame_fence.specs.FenceFrame.{point_at, corners_at, corner_array, asks_once_round, fence_fault, corners_sent, read_fence, fence_rules, fence_of, corner_cells, fence_cells as sent_cells, fence_frame}
+use Rattle.frame_config.specs.ConfigFrame.{keeps_raised, config_at, check_config_frame, read_config, freshness_cells, link_cells, fence_cells, battery_cells, energy_cells, flight_cells, config_cells, config_frame}
+use Rattle.frame_fence.specs.FenceFrame.{point_at, corners_at, corner_array, asks_once_round, check_fence, corners_sent, read_fence, fence_rules, fence_of, corner_cells, fence_cells as sent_cells, fence_frame}
 use Rattle.frame_state.specs.StateFrame.{raised_read, raised_valid, timer_at, triggers_at, arbiter_at, state_at, timers_valid, state_valid, read_state, le_timer, le_links, le_fence, le_battery, le_input, le_triggers, le_arbiter, state_frame}
 use Rattle.frame_telemetry.specs.Readings.{fix_at, landed_at, option_gps_at, stamped_f32_at, stamped_bool_at, stamped_landed_at}
 use Rattle.frame_telemetry.specs.TelemetryFrame.{telemetry_at, telemetry_tests, telemetry_valid, read_telemetry, battery_cells as charge_cells, status_cells, telemetry_cells, telemetry_frame}
 use Rattle.frame_decision.specs.Slots.{le_slot, le_slots}
 use Rattle.frame_decision.specs.DecisionFrame.{le_estimate, decision_frame}
-use Rattle.flight.specs.Flight.{accept_flight, refused_flight, read_flight}
+use Rattle.flight.specs.Flight.{accept_flight, blank_flight, read_flight}
 use Rattle.calls.specs.Form.{form_of, base, telemetry_in}
 use Rattle.calls.specs.Entry.{step_any}
 use Rattle.corners.specs.OnceRound.{north_sign, sign_changes}
@@ -54,7 +55,6 @@ use Rattle.types.specs.declared.Action.{Action}
 use Rattle.types.specs.declared.Telemetry.{Telemetry}
 use Rattle.supervisor.specs.declared.Supervisor.{Supervisor}
 use Rattle.wire.proofs.Whole.{first, second, Each, each}
-use Rattle.frame_state.specs.declared.StateRead.{StateRead}
 use Rattle.instants.specs.Retimed.{TimerName, gcs_clear, rc_clear, gps_deg_set, gps_deg_clear, gps_lost_set, gps_lost_clear, ekf_set, ekf_clear, breach_set, breach_clear, alt_max_set, alt_max_clear, alt_min_set, alt_min_clear, stale_clear, warn_set, warn_clear, low_set, low_clear, crit_set, marg_set, marg_clear, infeas_set, invalid_clear, rc_set, timer_of, supervisor_at, triggers_at as retimed_triggers, telemetry_at as retimed_telemetry}
 use Rattle.instants.specs.Own.{position_stamp, gps_stamp, value_stamp, flag_stamp, landed_stamp, instants_of, stamps_of}
 use Rattle.instants.specs.Listed.{timer_place, listed, unlisted, stamps_listed, stamps_unlisted}
@@ -165,14 +165,14 @@ held_but k now x e =
       last = unless (eqb k 28) now x.last_now r.1.1.1.0;
     }
 
-held_in_test : ℕ → ℕ → StateRead → Bool
-held_in_test k now (StateRead.Refused n) = true
-held_in_test k now (StateRead.Frame x) = held_test k now x
+held_in_test : ℕ → ℕ → Result Supervisor FrameError → Bool
+held_in_test k now (Err d) = true
+held_in_test k now (Ok x) = held_test k now x
 
-held_in_lem : (k now : ℕ) (r : StateRead) → held_in_test k now r ≡ true → HeldIn (HeldBut k) now r
+held_in_lem : (k now : ℕ) (r : Result Supervisor FrameError) → held_in_test k now r ≡ true → HeldIn (HeldBut k) now r
 unfolding held_in_test
-held_in_lem k now (StateRead.Refused n) e = tt
-held_in_lem k now (StateRead.Frame x) e = held_but k now x e
+held_in_lem k now (Err d) e = tt
+held_in_lem k now (Ok x) e = held_but k now x e
 
 abbrev read_tests : Telemetry → List Bool
 read_tests t =
@@ -222,7 +222,7 @@ module _ (k : ℕ) (s : Supervisor) (T : ℕ) where
     held : held_in_test k (fed_wide (pair_of t)).now_ms (read_wide_state (wide_bytes old T slice earlier)) ≡ true
 
   -- under any condition that follows
-  module _ (Held : ℕ → Supervisor → Type 0) (follows : (now : ℕ) (r : StateRead) → HeldIn (HeldBut k) now r → HeldIn Held now r) where
+  module _ (Held : ℕ → Supervisor → Type 0) (follows : (now : ℕ) (r : Result Supervisor FrameError) → HeldIn (HeldBut k) now r → HeldIn Held now r) where
     pair_meets : (t : Telemetry) (earlier : List Pair) → PairFacts t earlier → PairMeets Held old T slice (pair_of t) earlier
     pair_meets t earlier f =
         let now = (fed_wide (pair_of t)).now_ms in
@@ -298,7 +298,7 @@ record Computed : Type 0 where
   met : Met
 
 computed : Computed
-unfolding recent_test held_in_test clock_fault le_slot le_slots le_estimate le_option_f32 add sub mul div neg lt le of_bits to_bits of_int round is_nan config in_flight blind is_finite fabs is_negative fmax square_root set_request higher_request requested_action alt_m horizontal_dist_home wrapping_sub age fresh hold_met corner_fault same_point flat_turn cross2 mixed_turns area_term polygon_area polygon_tests polygon_new geofence_new side_length edge_signed_distance_by signed_distance nearest nearest_by contains bad_cell_count bad_capacity non_finite_param non_positive_speed negative_power bad_threshold_order outside_duration duration_out_of_range rtl_alt_outside_fence check_config validate_config default_config rtl_wh land_wh rtl_energy_at rtl_energy within_position within_velocity validate_position_sample validate_gps validate_percent validate_telemetry fresh_battery_percent fresh_remaining_wh fresh_voltage distance_between within_jump accept_sample apply_glitch_filter invalid_input stage_request gcs_stage gcs_clearing gcs_link rc_link gps ekf fence_approach fence_breach altitude_max altitude_min fence_family stale_battery battery_warn battery_low battery_critical battery energy_marginal energy held_set hold_pair raised_by raised_of fresh_triggers families link_requests fence_requests battery_requests requests next_triggers update recover apply_persistence apply_feasibility arbitrate gate_open hold_from evaluate sound_clock clock_step sense decision_of flown step u8_at number_at u16_at u32_at f32_at flag_at byte_below le_bytes le8 le16 le32 le_f32 le_flag frame_head frame_fault frame_written action_at reason_at le_action le_reason zeros valid_option option_u8_at option_u32_at le_option_u32 option_f32_at vec3_at le_vec3 option_position_at le_option_position keeps_raised config_at read_config freshness_cells link_cells fence_cells battery_cells energy_cells flight_cells config_cells config_frame point_at corners_at corner_array asks_once_round fence_fault corners_sent read_fence fence_rules fence_of corner_cells sent_cells fence_frame timer_at triggers_at arbiter_at state_at timers_valid state_valid raised_read raised_valid read_state le_timer le_links le_fence le_battery le_input le_triggers le_arbiter state_frame fix_at landed_at option_gps_at stamped_f32_at stamped_bool_at stamped_landed_at telemetry_at telemetry_tests telemetry_valid read_telemetry charge_cells status_cells telemetry_cells telemetry_frame decision_frame accept_flight refused_flight read_flight step_any form_of sign_changes north_sign area_fault area_corners area_rules distance_at bodies held_in bodies_fit counts_fit areas_frame_fault areas_fault bodies_of clearance clearance_at fence slice holding no_gps narrow_bytes wide_bytes narrow_outputs wide_outputs low_stamps stamps_of retimed_telemetry widen_call have_ages carried supervisor_at retimed_triggers wide_state_frame instants_of listed widened state_gaps read_wide_state state_on narrowed wide_instants unlisted instants_at wide_telemetry_frame stamps_listed telemetry_gaps read_wide_telemetry telemetry_on wide_stamps stamps_unlisted room_fault
+unfolding recent_test held_in_test clock_fault le_slot le_slots le_estimate le_option_f32 add sub mul div neg lt le of_bits to_bits of_int round is_nan config in_flight blind is_finite fabs is_negative fmax square_root set_request higher_request requested_action alt_m horizontal_dist_home wrapping_sub age fresh hold_met corner_fault same_point flat_turn cross2 mixed_turns area_term polygon_area polygon_tests polygon_new geofence_new side_length edge_signed_distance_by signed_distance nearest nearest_by contains bad_cell_count bad_capacity non_finite_param non_positive_speed negative_power bad_threshold_order outside_duration duration_out_of_range rtl_alt_outside_fence check_config validate_config default_config rtl_wh land_wh rtl_energy_at rtl_energy within_position within_velocity validate_position_sample validate_gps validate_percent validate_telemetry fresh_battery_percent fresh_remaining_wh fresh_voltage distance_between within_jump accept_sample apply_glitch_filter invalid_input stage_request gcs_stage gcs_clearing gcs_link rc_link gps ekf fence_approach fence_breach altitude_max altitude_min fence_family stale_battery battery_warn battery_low battery_critical battery energy_marginal energy held_set hold_pair raised_by raised_of fresh_triggers families link_requests fence_requests battery_requests requests next_triggers update recover apply_persistence apply_feasibility arbitrate gate_open hold_from evaluate sound_clock clock_step sense decision_of flown step u8_at number_at u16_at u32_at f32_at flag_at byte_below le_bytes le8 le16 le32 le_f32 le_flag frame_head check_frame frame_written action_at reason_at le_action le_reason zeros valid_option option_u8_at option_u32_at le_option_u32 option_f32_at vec3_at le_vec3 option_position_at le_option_position keeps_raised config_at check_config_frame read_config freshness_cells link_cells fence_cells battery_cells energy_cells flight_cells config_cells config_frame point_at corners_at corner_array asks_once_round check_fence corners_sent read_fence fence_rules fence_of corner_cells sent_cells fence_frame timer_at triggers_at arbiter_at state_at timers_valid state_valid raised_read raised_valid read_state le_timer le_links le_fence le_battery le_input le_triggers le_arbiter state_frame fix_at landed_at option_gps_at stamped_f32_at stamped_bool_at stamped_landed_at telemetry_at telemetry_tests telemetry_valid read_telemetry charge_cells status_cells telemetry_cells telemetry_frame decision_frame accept_flight blank_flight read_flight step_any form_of sign_changes north_sign area_fault area_corners area_rules distance_at bodies held_in bodies_fit counts_fit areas_frame_fault areas_fault bodies_of clearance clearance_at fence slice holding no_gps narrow_bytes wide_bytes narrow_outputs wide_outputs low_stamps stamps_of retimed_telemetry widen_call have_ages carried supervisor_at retimed_triggers wide_state_frame instants_of listed widened state_gaps read_wide_state state_on narrowed wide_instants unlisted instants_at wide_telemetry_frame stamps_listed telemetry_gaps read_wide_telemetry telemetry_on wide_stamps stamps_unlisted check_room
 computed =
     record {
       timer = record { below_old = refl; zero = refl; narrow = refl; wide = refl; differ = refl };
@@ -368,9 +368,9 @@ whole_timer now x h infeas_set = h.timer infeas_set
 whole_timer now x h invalid_clear = h.timer invalid_clear
 whole_timer now x h rc_set = h.timer rc_set
 
-whole_held : (now : ℕ) (r : StateRead) → HeldIn (HeldBut 29) now r → HeldIn HeldRecent now r
-whole_held now (StateRead.Refused n) h = tt
-whole_held now (StateRead.Frame x) h = record { timer = whole_timer now x h; recovery = h.recovery; gate = h.gate; stored = h.stored; last = h.last }
+whole_held : (now : ℕ) (r : Result Supervisor FrameError) → HeldIn (HeldBut 29) now r → HeldIn HeldRecent now r
+whole_held now (Err d) h = tt
+whole_held now (Ok x) h = record { timer = whole_timer now x h; recovery = h.recovery; gate = h.gate; stored = h.stored; last = h.last }
 
 met_meets : Meets HeldRecent (frame_of met_state) met_t slice met_run
 met_meets =

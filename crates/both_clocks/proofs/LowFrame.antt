@@ -1,16 +1,16 @@
 -- A kind 9's bytes as a kind 3 with the low halves of its instants. Assumes nothing.
-use Rattle.std.specs.Prelude.{Option, Some, None, Float}
+use Rattle.wire.specs.declared.FrameError.{FrameError}
+use Rattle.std.specs.Prelude.{Option, Some, None, Float, Result, Ok, Err}
 use Prim.Native.Nat.{ℕ, zero, suc, ◌%◌, ◌^◌, ◌<◌}
 use native.Mathlib.Omega.{arith}
-use mathlib.Core.Bool.{Bool, true, false, cond}
+use mathlib.Core.Bool.{Bool}
 use mathlib.Core.List.{List, [], ◌∷◌}
 use mathlib.Core.Path.{◌≡◌, refl, ap, sym, ◌∙◌}
-use borrow.Author.Tests.{eqb-true}
-use lib.Dec.{eqb, lit<}
+use lib.Dec.{lit<}
 use lib.ListN.{get_or, replicate}
 use Rattle.types.specs.declared.Telemetry.{Telemetry}
-use Rattle.wire.specs.Frame.{frame_fault}
-use Rattle.frame_telemetry.specs.declared.TelemetryRead.{TelemetryRead}
+use Rattle.wire.specs.Frame.{frame_number, check_frame}
+use Rattle.wire.proofs.Read.{behind_head}
 use Rattle.frame_telemetry.specs.TelemetryFrame.{read_telemetry}
 use Rattle.instants.specs.Retimed.{instead, position_at, Stamps, gps_at, value_at, flag_at, landed_at, telemetry_at}
 use Rattle.instants.specs.Own.{own, position_stamp, gps_stamp, value_stamp, flag_stamp, landed_stamp, stamps_of}
@@ -18,7 +18,7 @@ use Rattle.instants.specs.Listed.{stamps_listed, stamps_unlisted}
 use Rattle.frame_wide.specs.WideTelemetry.{telemetry_on, wide_stamps, with_stamps, read_wide_telemetry}
 use Rattle.frame_wide_trips.specs.Claim.{Words}
 use Rattle.frame_wide_trips.proofs.Claim.{telemetry_laws}
-use Rattle.both_clocks.specs.Claim.{low_stamps, without_upper, low_frame, LowFrameClaim}
+use Rattle.both_clocks.specs.Claim.{low_stamps, without_upper, LowFrameClaim}
 use Rattle.types.specs.declared.Stamped.{Stamped}
 use Rattle.types.specs.declared.LandedState.{LandedState}
 use Rattle.types.specs.declared.PositionSample.{PositionSample}
@@ -98,17 +98,17 @@ stamps_back j = refl
 
 pub low_frame_claim : LowFrameClaim
 unfolding read_wide_telemetry
-low_frame_claim s t e = at (eqb (frame_fault 9 148 s) 0) refl e
+low_frame_claim s t e =
+    let h = behind_head (check_frame 9 148 s) (with_stamps (wide_stamps s) read) t e in
+    telemetry_laws.marks_read (stamps_listed (low_stamps (wide_stamps s))) s (low_words (wide_stamps s)) (ap frame_number h.0)
+    ∙ ap (λ (j : Stamps). with_stamps j read) (stamps_back (low_stamps (wide_stamps s)))
+    ∙ with_low read h.1
   where
-    with_low : (u : TelemetryRead) → with_stamps (wide_stamps s) u ≡ TelemetryRead.Frame t → with_stamps (low_stamps (wide_stamps s)) u ≡ TelemetryRead.Frame (without_upper t)
-    with_low (TelemetryRead.Refused n) e = cc
-    with_low (TelemetryRead.Frame u) e =
-        let f : telemetry_at (wide_stamps s) u ≡ t = cc in
-        ap TelemetryRead.Frame (sym (low_at_lem (wide_stamps s) u) ∙ ap without_upper f)
+    read : Result Telemetry FrameError
+    read = read_telemetry (telemetry_on (replicate 11 0) s)
 
-    at : (b : Bool) → eqb (frame_fault 9 148 s) 0 ≡ b → cond b (with_stamps (wide_stamps s) (read_telemetry (telemetry_on (replicate 11 0) s))) (TelemetryRead.Refused (frame_fault 9 148 s)) ≡ TelemetryRead.Frame t → read_telemetry (low_frame s) ≡ TelemetryRead.Frame (without_upper t)
-    at true p e =
-        telemetry_laws.marks_read (stamps_listed (low_stamps (wide_stamps s))) s (low_words (wide_stamps s)) (eqb-true _ _ p)
-        ∙ ap (λ (j : Stamps). with_stamps j (read_telemetry (telemetry_on (replicate 11 0) s))) (stamps_back (low_stamps (wide_stamps s)))
-        ∙ with_low (read_telemetry (telemetry_on (replicate 11 0) s)) e
-    at false p e = cc
+    with_low : (u : Result Telemetry FrameError) → with_stamps (wide_stamps s) u ≡ Ok t → with_stamps (low_stamps (wide_stamps s)) u ≡ Ok (without_upper t)
+    with_low (Err d) e = cc
+    with_low (Ok u) e =
+        let f : telemetry_at (wide_stamps s) u ≡ t = cc in
+        ap Ok (sym (low_at_lem (wide_stamps s) u) ∙ ap without_upper f)

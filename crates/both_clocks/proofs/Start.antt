@@ -1,10 +1,12 @@
 -- What is carried over, and that it is a start for both clocks. Assumes nothing.
-use Rattle.std.specs.Prelude.{Option, Some, None, unwrap_or}
+use Rattle.wire.proofs.Head.{no_error_zero}
+use Rattle.wire.specs.declared.FrameError.{FrameError}
+use Rattle.std.specs.Prelude.{Option, Some, None, unwrap_or, Result, Ok, Err, ⊤}
 use Prim.Native.Nat.{ℕ, ◌-◌, ◌%◌, ◌^◌, ◌≤◌, ◌<◌}
-use mathlib.Core.Bool.{Bool, true, false, ◌&&◌, cond, false≢true}
+use mathlib.Core.Bool.{Bool, true, false, cond, false≢true}
 use mathlib.Core.List.{List, [], ◌∷◌, ◌++◌}
 use mathlib.Core.Path.{◌≡◌, refl, ap, sym, subst, ◌∙◌}
-use lib.Dec.{eqb, ltb, lit<}
+use lib.Dec.{ltb, lit<}
 use lib.ListN.{length, take, drop}
 use lib.Seq.{take-append-le, take-length}
 use native.Mathlib.Omega.{arith}
@@ -16,11 +18,10 @@ use Rattle.supervisor.specs.declared.Supervisor.{Supervisor}
 use Rattle.supervisor.specs.Rules.{finite_stored, Rules, RaisedFits}
 use Rattle.wire.specs.Cell.{Within}
 use Rattle.wire.specs.Fields.{Bytes}
-use Rattle.wire.specs.Frame.{frame_fault, room_fault, frame_written}
+use Rattle.wire.specs.Frame.{frame_number, frame_written, check_room}
 use Rattle.wire.proofs.Whole.{Each, each}
 use Rattle.options.specs.Position.{position_cells}
-use Rattle.frame_state.specs.declared.StateRead.{StateRead}
-use Rattle.frame_state.specs.StateFrame.{state_at, state_valid, raised_read, raised_valid, read_state, state_frame, timer_cells, Typed}
+use Rattle.frame_state.specs.StateFrame.{read_state, state_frame, timer_cells, Typed}
 use Rattle.frame_state.proofs.Trips.{bytes_back, read_rules, read_typed, read_fits}
 use Rattle.instants.specs.Retimed.{TimerName, gcs_clear, rc_clear, gps_deg_set, gps_deg_clear, gps_lost_set, gps_lost_clear, ekf_set, ekf_clear, breach_set, breach_clear, alt_max_set, alt_max_clear, alt_min_set, alt_min_clear, stale_clear, warn_set, warn_clear, low_set, low_clear, crit_set, marg_set, marg_clear, infeas_set, invalid_clear, rc_set, timer_of, triggers_at, position_at, Instants, supervisor_at}
 use Rattle.instants.specs.Own.{own, position_stamp}
@@ -41,16 +42,14 @@ use Rattle.types.specs.declared.PositionSample.{PositionSample}
 
 record Read (old : List ℕ) : Type 0 where
   state : Supervisor
-  is : read_state false old ≡ StateRead.Frame state
+  is : read_state false old ≡ Ok state
 
-is_read : (old : List ℕ) → ((n : ℕ) → read_state false old ≡ StateRead.Refused n → n ≡ 0) → Read old
-unfolding read_state
-is_read old h = at (eqb (frame_fault 5 184 old) 0) (state_valid old && raised_valid false old) refl refl
+is_read : (old : List ℕ) → ((e : FrameError) → read_state false old ≡ Err e → ⊥) → Read old
+is_read old h = at (read_state false old) refl
   where
-    at : (a b : Bool) → eqb (frame_fault 5 184 old) 0 ≡ a → (state_valid old && raised_valid false old) ≡ b → Read old
-    at true true p q = record { state = state_at old (raised_read false old); is = rw (p, q) refl }
-    at true false p q = absurd (eqb-false 4 0 refl (h 4 (rw (p, q) refl)))
-    at false b p q = absurd (eqb-false (frame_fault 5 184 old) 0 p (h (frame_fault 5 184 old) (rw p refl)))
+    at : (r : Result Supervisor FrameError) → read_state false old ≡ r → Read old
+    at (Ok x) p = record { state = x; is = p }
+    at (Err e) p = absurd (h e p)
 
 -- ---- what the number 0 says
 
@@ -66,12 +65,12 @@ image_of x new =
     let n : length f ≡ 306 = state_laws.size x in
     take-append-le 306 f (drop (length f) new) (omega arith) ∙ ap (λ (m : ℕ). take m f) (sym n) ∙ take-length f
 
--- by the three tests
+-- by the three tests, of which the last is whether the slice is too short
 abbrev by_tests : List ℕ → List ℕ → Bool → Bool → Bool → FreshCall
-by_tests f new a b c = cond a (cond b (record { number = cond c 5 0; state = cond c new (f ++ drop (length f) new) }) (record { number = 35; state = new })) (record { number = 34; state = new })
+by_tests f new a b c = cond a (cond b (record { number = frame_number {A = ⊤} (cond c (Err FrameError.NoRoom) (Ok tt)); state = cond c new (f ++ drop (length f) new) }) (record { number = 35; state = new })) (record { number = 34; state = new })
 
-carries : (T : ℕ) (s : Supervisor) (new : List ℕ) → (after_old (StateRead.Frame s) T new).number ≡ 0 → Carries T s (after_old (StateRead.Frame s) T new).state
-unfolding room_fault frame_written
+carries : (T : ℕ) (s : Supervisor) (new : List ℕ) → (after_old (Ok s) T new).number ≡ 0 → Carries T s (after_old (Ok s) T new).state
+unfolding check_room frame_written
 carries T s new z = at (last_is T s.last_now) (have_ages T s) (ltb (length new) (length (wide_state_frame (widened T s)))) refl refl z
   where
     at : (a b c : Bool) → last_is T s.last_now ≡ a → have_ages T s ≡ b → (by_tests (wide_state_frame (widened T s)) new a b c).number ≡ 0 → Carries T s (by_tests (wide_state_frame (widened T s)) new a b c).state
@@ -264,7 +263,7 @@ pub record Both (s : Supervisor) (i : Instants) : Type 0 where
 
 pub record Begun (old : List ℕ) (T : ℕ) (new : List ℕ) : Type 0 where
   pub state : Supervisor
-  pub read : read_state false old ≡ StateRead.Frame state
+  pub read : read_state false old ≡ Ok state
   pub narrow : old ≡ state_frame false state
   pub wide : take 306 (widen_call old T new).state ≡ wide_state_frame (supervisor_at (carried T state) state)
   pub both : Both state (carried T state)
@@ -272,9 +271,9 @@ pub record Begun (old : List ℕ) (T : ℕ) (new : List ℕ) : Type 0 where
 pub begun : (old : List ℕ) (T : ℕ) (new : List ℕ) → Bytes old → T < 2 ^ 64 → (widen_call old T new).number ≡ 0 → Begun old T new
 unfolding widen_call
 begun old T new b t z =
-    let r = is_read old (λ n e. sym (ap (λ (q : StateRead). (after_old q T new).number) e) ∙ z) in
+    let r = is_read old (λ n e. no_error_zero n (sym (ap (λ (q : Result Supervisor FrameError). (after_old q T new).number) e) ∙ z)) in
     let s = r.state in
-    let c = carries T s new (sym (ap (λ (q : StateRead). (after_old q T new).number) r.is) ∙ z) in
+    let c = carries T s new (sym (ap (λ (q : Result Supervisor FrameError). (after_old q T new).number) r.is) ∙ z) in
     let typed = read_typed false old s r.is b in
     let rules = read_rules false old s r.is in
     let fits = read_fits false old s r.is in
@@ -282,7 +281,7 @@ begun old T new b t z =
       state = s;
       read = r.is;
       narrow = sym (bytes_back false old s r.is b);
-      wide = ap (λ (q : StateRead). take 306 (after_old q T new).state) r.is ∙ c.image;
+      wide = ap (λ (q : Result Supervisor FrameError). take 306 (after_old q T new).state) r.is ∙ c.image;
       both =
           record {
             typed = typed;

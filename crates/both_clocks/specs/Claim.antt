@@ -1,12 +1,11 @@
 -- Document 02, L7, about the bytes that the C host hands over: a 32-bit state is carried over, and "from then on .. both clocks .. yield the same Decisions".
 -- Lists have the latest pair of calls first. Assumes nothing.
-use Rattle.std.specs.Prelude.{ℕ, ◌+◌, ◌%◌, ◌^◌, ◌≤◌, ◌<◌, false, List, [], ◌∷◌, ◌⊎◌, ◌≡◌, eqb, take, Option, Some, None}
+use Rattle.wire.specs.declared.FrameError.{FrameError}
+use Rattle.std.specs.Prelude.{ℕ, ◌+◌, ◌%◌, ◌^◌, ◌≤◌, ◌<◌, false, List, [], ◌∷◌, ◌⊎◌, ◌≡◌, Result, Ok, Err, eqb, take, Option, Some, None}
 use Rattle.types.specs.declared.Telemetry.{Telemetry}
 use Rattle.supervisor.specs.declared.Supervisor.{Supervisor}
 use Rattle.wire.specs.Fields.{Bytes}
-use Rattle.frame_state.specs.declared.StateRead.{StateRead}
 use Rattle.frame_state.specs.StateFrame.{read_state}
-use Rattle.frame_telemetry.specs.declared.TelemetryRead.{TelemetryRead}
 use Rattle.frame_telemetry.specs.TelemetryFrame.{read_telemetry}
 use Rattle.instants.specs.Retimed.{TimerName, timer_of, Instants, Stamps, supervisor_at, telemetry_at}
 use Rattle.instants.specs.Own.{position_stamp, gps_stamp, value_stamp, flag_stamp, landed_stamp, stamps_of}
@@ -49,7 +48,7 @@ low_frame s = telemetry_on (stamps_listed (low_stamps (wide_stamps s))) s
 
 -- where the one is accepted so is the other, and it is read as the same without the upper halves
 abbrev pub LowFrameClaim : Type 0
-LowFrameClaim = (s : List ℕ) (t : Telemetry) → read_wide_telemetry s ≡ TelemetryRead.Frame t → read_telemetry (low_frame s) ≡ TelemetryRead.Frame (without_upper t)
+LowFrameClaim = (s : List ℕ) (t : Telemetry) → read_wide_telemetry s ≡ Ok t → read_telemetry (low_frame s) ≡ Ok (without_upper t)
 
 -- ---- ages, on the 64-bit clock
 
@@ -80,9 +79,9 @@ pub record HeldRecent (now : ℕ) (x : Supervisor) : Type 0 where
   pub last : Recent now x.last_now
 
 -- what is asked of what is held at a reading, of the state that an image is read as
-abbrev pub HeldIn : (ℕ → Supervisor → Type 0) → ℕ → StateRead → Type 0
-HeldIn Held now (StateRead.Refused n) = Unit {0}
-HeldIn Held now (StateRead.Frame x) = Held now x
+abbrev pub HeldIn : (ℕ → Supervisor → Type 0) → ℕ → Result Supervisor FrameError → Type 0
+HeldIn Held now (Err d) = Unit {0}
+HeldIn Held now (Ok x) = Held now x
 
 -- ---- two runs
 
@@ -129,15 +128,15 @@ module _ (old : List ℕ) (T : ℕ) (new : List ℕ) where
     -- the images are of one state but for its instants, and the low halves of the one's are the other's, beside the epoch's
     pub state : Supervisor
     pub instants : Instants
-    pub narrow : read_state false (narrow_bytes pairs) ≡ StateRead.Frame state
-    pub wide : read_wide_state (wide_bytes pairs) ≡ StateRead.Frame (supervisor_at instants state)
+    pub narrow : read_state false (narrow_bytes pairs) ≡ Ok state
+    pub wide : read_wide_state (wide_bytes pairs) ≡ Ok (supervisor_at instants state)
     pub low : OfState LowHalf state instants
 
   -- what is carried over is such a start: "each held instant becomes T minus its wrapping age at last_now", so it keeps its low half
   pub record Starts : Type 0 where
     pub state : Supervisor
-    pub narrow : read_state false old ≡ StateRead.Frame state
-    pub wide : read_wide_state (wide_bytes []) ≡ StateRead.Frame (supervisor_at (carried T state) state)
+    pub narrow : read_state false old ≡ Ok state
+    pub wide : read_wide_state (wide_bytes []) ≡ Ok (supervisor_at (carried T state) state)
     pub low : OfState LowHalf state (carried T state)
 
 -- every old state and T that is carried over

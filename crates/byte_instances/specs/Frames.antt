@@ -1,14 +1,15 @@
 -- Small instances on the bytes of single frames: what a reader's code and its definition could be bent alike in. Assumes nothing.
-use Rattle.std.specs.Prelude.{ℕ, ◌+◌, ◌*◌, ◌≡◌, true, false, List, [], ◌∷◌, ◌++◌, length, take, drop, replicate}
-use Rattle.wire.specs.Frame.{whole_frame, frame_fault}
+use Rattle.frame_fence.specs.declared.FenceRead.{FenceRead}
+use Rattle.supervisor.specs.declared.Supervisor.{Supervisor}
+use Rattle.wire.specs.declared.FrameError.{FrameError}
+use Rattle.std.specs.Prelude.{ℕ, ◌+◌, ◌*◌, ◌≡◌, true, false, List, [], ◌∷◌, ◌++◌, length, take, drop, replicate, Result, Ok, Err}
+use Rattle.wire.specs.Frame.{whole_frame, frame_fault, frame_error_number, frame_number}
 use Rattle.options.specs.Options.{valid_option}
 use Rattle.triggers.specs.declared.Raised.{Raised}
 use Rattle.triggers.specs.Update.{none_raised}
-use Rattle.frame_fence.specs.FenceFrame.{fence_fault, read_fence, fence_of, fence_number, write_fault}
-use Rattle.frame_telemetry.specs.declared.TelemetryRead.{TelemetryRead}
+use Rattle.frame_fence.specs.FenceFrame.{fence_fault, read_fence, fence_of, fence_number, check_write, write_number}
 use Rattle.frame_telemetry.specs.TelemetryFrame.{read_telemetry}
 use Rattle.frame_decision.specs.DecisionFrame.{read_decision}
-use Rattle.frame_state.specs.declared.StateRead.{StateRead}
 use Rattle.frame_state.specs.StateFrame.{read_state}
 
 -- some bytes with others in the place of theirs, from i on
@@ -46,22 +47,18 @@ infinite = 128 ∷ 127 ∷ []
 
 -- ---- what is answered; 0 for an accepted frame
 
-abbrev pub telemetry_number : TelemetryRead → ℕ
-telemetry_number (TelemetryRead.Frame t) = 0
-telemetry_number (TelemetryRead.Refused n) = n
-
-abbrev pub state_number : StateRead → ℕ
-state_number (StateRead.Frame x) = 0
-state_number (StateRead.Refused n) = n
-
 -- what is raised in a state that was read
-abbrev pub raised_in : StateRead → Raised
-raised_in (StateRead.Frame x) = x.triggers.raised
-raised_in (StateRead.Refused n) = none_raised
+abbrev pub raised_in : Result Supervisor FrameError → Raised
+raised_in (Ok x) = x.triggers.raised
+raised_in (Err e) = none_raised
 
 -- the number of the fence rules on a frame
+abbrev pub fences_number : Result FenceRead FrameError → ℕ
+fences_number (Ok r) = fence_number (fence_of r)
+fences_number (Err e) = frame_error_number e
+
 abbrev pub rules_number : List ℕ → ℕ
-rules_number s = fence_number (fence_of (read_fence s)).result
+rules_number s = fences_number (read_fence s)
 
 pub record FrameInstances : Type 0 where
   -- heads: "a two-byte length (of kind and body)"; "under 2 bytes, or fewer than 2 + length: 1", its own length and not the kind's; the kind before the length
@@ -77,22 +74,22 @@ pub record FrameInstances : Type 0 where
   pub seventeen_read : rules_number (fence 17) ≡ 11
   pub corners_before_altitudes : rules_number (fence 2) ≡ 10
   pub finite_before_envelope : rules_number (changed (fence 3) 15 infinite) ≡ 12
-  pub seventeen_written : write_fault 17 [] [] ≡ 11
+  pub seventeen_written : write_number (check_write 17 [] []) ≡ 11
   -- telemetry: "absent value not zero", up to its last byte; the head before the flags
-  pub telemetry_read_lem : telemetry_number (read_telemetry telemetry) ≡ 0
-  pub absent_voltage : telemetry_number (read_telemetry (changed telemetry 58 (1 ∷ []))) ≡ 4
-  pub length-before_flags : telemetry_number (read_telemetry (changed telemetry 50 (2 ∷ []) ++ (0 ∷ []))) ≡ 3
+  pub telemetry_read_lem : frame_number (read_telemetry telemetry) ≡ 0
+  pub absent_voltage : frame_number (read_telemetry (changed telemetry 58 (1 ∷ []))) ≡ 4
+  pub length-before_flags : frame_number (read_telemetry (changed telemetry 50 (2 ∷ []) ++ (0 ∷ []))) ≡ 3
   -- a Decision: a flag of 2; an absent slot with an action
-  pub decision_read : (read_decision decision).refused ≡ 0
-  pub position_of_two : (read_decision (changed decision 64 (2 ∷ []))).refused ≡ 4
-  pub absent_action : (read_decision (changed decision 9 (1 ∷ []))).refused ≡ 4
+  pub decision_read : frame_number (read_decision decision) ≡ 0
+  pub position_of_two : frame_number (read_decision (changed decision 64 (2 ∷ []))) ≡ 4
+  pub absent_action : frame_number (read_decision (changed decision 9 (1 ∷ []))) ≡ 4
   -- a state: "gcs_stage above 3, backwards_streak above 2, a number of the stored position or velocity not finite"
-  pub stage_of_3 : state_number (read_state false (changed state 132 (3 ∷ []))) ≡ 0
-  pub stage_of_4 : state_number (read_state false (changed state 132 (4 ∷ []))) ≡ 4
-  pub streak_of_2 : state_number (read_state false (changed state 184 (2 ∷ []))) ≡ 0
-  pub streak_of_3 : state_number (read_state false (changed state 184 (3 ∷ []))) ≡ 4
-  pub stored_read : state_number (read_state false stored) ≡ 0
-  pub position_infinite : state_number (read_state false (changed stored 152 infinite)) ≡ 4
-  pub velocity_infinite : state_number (read_state false (changed stored 164 infinite)) ≡ 4
+  pub stage_of_3 : frame_number (read_state false (changed state 132 (3 ∷ []))) ≡ 0
+  pub stage_of_4 : frame_number (read_state false (changed state 132 (4 ∷ []))) ≡ 4
+  pub streak_of_2 : frame_number (read_state false (changed state 184 (2 ∷ []))) ≡ 0
+  pub streak_of_3 : frame_number (read_state false (changed state 184 (3 ∷ []))) ≡ 4
+  pub stored_read : frame_number (read_state false stored) ≡ 0
+  pub position_infinite : frame_number (read_state false (changed stored 152 infinite)) ≡ 4
+  pub velocity_infinite : frame_number (read_state false (changed stored 164 infinite)) ≡ 4
   -- kind 12's flags, "in the order above": GpsLost is the second
   pub second_flag : (raised_in (read_state true (changed raised_state 187 (1 ∷ [])))).gps_lost ≡ true

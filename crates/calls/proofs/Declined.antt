@@ -7,12 +7,15 @@ use lib.Dec.{eqb, ltb}
 use lib.ListN.{length}
 use Rattle.supervisor.specs.declared.Supervisor.{Supervisor}
 use Rattle.supervisor.specs.declared.Stepped.{Stepped}
-use Rattle.frame_state.specs.declared.StateRead.{StateRead}
-use Rattle.frame_telemetry.specs.declared.TelemetryRead.{TelemetryRead}
 use Rattle.flight.specs.declared.Flight.{Flight}
+use Rattle.flight.specs.declared.FlightError.{FlightError}
 use Rattle.flight.specs.Flight.{read_flight}
+use Rattle.frame_areas.specs.AreasFrame.{areas_fault}
+use Rattle.wire.specs.declared.FrameError.{FrameError}
+use Rattle.types.specs.declared.Telemetry.{Telemetry}
+use Rattle.std.specs.Prelude.{Result, Ok, Err}
 use Rattle.calls.specs.Form.{Form, read_state_of, read_telemetry_of, form_of}
-use Rattle.calls.specs.Entry.{flight_keeps, StepCall, declined, output_size, succeeded, written, step_of, after_telemetry, after_state, from_state, refused_first, step_any}
+use Rattle.calls.specs.Entry.{flight_keeps, StepCall, declined, output_size, succeeded, written, step_of, after_telemetry, after_state, from_state, after_flight, step_any}
 
 -- a call that is 0, or has both buffers as they were
 abbrev Keeps : StepCall → List ℕ → List ℕ → Type 0
@@ -26,21 +29,25 @@ module _ (with_side : Bool) where
       at true e = (refl, refl)
       at false e = absurd (true≢false e)
 
-  telemetry_keeps : (form : Form) (r : TelemetryRead) (f : Flight) (areas : List ℕ) (s : Supervisor) (state output : List ℕ) → Keeps (after_telemetry with_side form r f areas s state output) state output
-  telemetry_keeps form (TelemetryRead.Refused n) f areas s state output e = (refl, refl)
-  telemetry_keeps form (TelemetryRead.Frame t) f areas s state output e = written_keeps form (step_of form f areas s t) state output e
+  telemetry_keeps : (form : Form) (r : Result Telemetry FrameError) (f : Flight) (areas : List ℕ) (s : Supervisor) (state output : List ℕ) → Keeps (after_telemetry with_side form r f areas s state output) state output
+  telemetry_keeps form (Err x) f areas s state output e = (refl, refl)
+  telemetry_keeps form (Ok t) f areas s state output e = written_keeps form (step_of form f areas s t) state output e
 
-  state_keeps : (form : Form) (r : StateRead) (f : Flight) (areas state telemetry output : List ℕ) → Keeps (after_state with_side form r f areas state telemetry output) state output
-  state_keeps form (StateRead.Refused n) f areas state telemetry output e = (refl, refl)
-  state_keeps form (StateRead.Frame s) f areas state telemetry output e = telemetry_keeps form (read_telemetry_of form telemetry) f areas s state output e
+  state_keeps : (form : Form) (r : Result Supervisor FrameError) (f : Flight) (areas state telemetry output : List ℕ) → Keeps (after_state with_side form r f areas state telemetry output) state output
+  state_keeps form (Err x) f areas state telemetry output e = (refl, refl)
+  state_keeps form (Ok s) f areas state telemetry output e = telemetry_keeps form (read_telemetry_of form telemetry) f areas s state output e
+
+  flight_keeps_lem : (r : Result Flight FlightError) (areas state telemetry output : List ℕ) → Keeps (after_flight with_side r areas state telemetry output) state output
+  flight_keeps_lem (Err x) areas state telemetry output e = (refl, refl)
+  flight_keeps_lem (Ok f) areas state telemetry output e = at (eqb (areas_fault areas) 0) e
+    where
+      form : Form
+      form = form_of (flight_keeps f) state
+
+      at : (b : Bool) → Keeps (cond b (from_state with_side form f areas state telemetry output) (declined (areas_fault areas) state output)) state output
+      at true e = state_keeps form (read_state_of form state) f areas state telemetry output e
+      at false e = (refl, refl)
 
   pub declined_keeps : (config fence state telemetry output areas : List ℕ) → Keeps (step_any with_side config fence state telemetry output areas) state output
   unfolding step_any
-  declined_keeps config fence state telemetry output areas = at (eqb (refused_first f areas) 0)
-    where
-      f : Flight
-      f = read_flight config fence
-
-      at : (b : Bool) → Keeps (cond b (from_state with_side (form_of (flight_keeps f) state) f areas state telemetry output) (declined (refused_first f areas) state output)) state output
-      at true e = state_keeps (form_of (flight_keeps f) state) (read_state_of (form_of (flight_keeps f) state) state) f areas state telemetry output e
-      at false e = (refl, refl)
+  declined_keeps config fence state telemetry output areas = flight_keeps_lem (read_flight config fence) areas state telemetry output

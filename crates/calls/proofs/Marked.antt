@@ -1,12 +1,13 @@
 -- A call on frames of kinds 10 and 9 is the 32-bit call on their marks, with each instant put back. Assumes nothing.
-use Rattle.std.specs.Prelude.{Option, Some, None, Float, is_some}
+use Rattle.wire.proofs.Head.{number_zero}
+use native.Mathlib.Omega.{arith}
+use Rattle.std.specs.Prelude.{Option, Some, None, Float, is_some, Result, Ok, Err, ⊤}
 use Prim.Native.Nat.{ℕ, zero, suc, ◌^◌, ◌<◌}
 use mathlib.Core.Bool.{Bool, true, false, ◌&&◌, cond}
 use mathlib.Core.List.{List, [], ◌∷◌, ◌++◌}
 use mathlib.Core.Path.{◌≡◌, refl, ap, sym, ◌∙◌}
 use lib.Dec.{eqb, ltb, lit<}
 use lib.ListN.{length, drop, get_or, replicate}
-use borrow.Author.Tests.{eq-eqb}
 use Rattle.types.specs.declared.Telemetry.{Telemetry}
 use Rattle.types.specs.declared.Decision.{Decision}
 use Rattle.time.specs.Time.{plain}
@@ -17,16 +18,16 @@ use Rattle.supervisor.specs.declared.Stepped.{Stepped}
 use Rattle.supervisor.specs.Settings.{Site, base_settings, fence_site_by, with_areas, fed_at}
 use Rattle.supervisor.specs.Step.{step}
 use Rattle.wire.specs.Fields.{u8_at, flag_at, u32_at, le_flag, le8, le16, le32, le_bytes, le_f32}
-use Rattle.wire.specs.Frame.{frame_fault, frame_head}
+use Rattle.wire.specs.declared.FrameError.{FrameError}
+use Rattle.wire.specs.Frame.{frame_error_number, check_frame, frame_fault, frame_head}
+use Rattle.std.specs.Result.{result_and}
 use Rattle.options.specs.Options.{option_u32_at, le_option_u32, le_option_f32}
 use Rattle.options.specs.Position.{le_vec3, le_option_position}
 use Rattle.options.specs.Enums.{le_action, le_reason}
-use Rattle.frame_state.specs.declared.StateRead.{StateRead}
-use Rattle.frame_state.specs.StateFrame.{state_at, state_valid, raised_read, raised_valid, read_state, le_timer, le_links, le_fence, le_battery, le_input, le_triggers, le_arbiter, state_frame}
+use Rattle.frame_state.specs.StateFrame.{read_state, le_timer, le_links, le_fence, le_battery, le_input, le_triggers, le_arbiter, state_frame}
 use Rattle.frame_decision.specs.DecisionFrame.{le_estimate, decision_frame}
 use Rattle.frame_decision.specs.Slots.{le_slot, le_slots}
 use Rattle.frame_side.specs.SideFrame.{side_frame}
-use Rattle.frame_telemetry.specs.declared.TelemetryRead.{TelemetryRead}
 use Rattle.frame_telemetry.specs.TelemetryFrame.{telemetry_valid, read_telemetry}
 use Rattle.frame_telemetry.specs.TelemetryFrame as narrow
 use Rattle.flight.specs.declared.Flight.{Flight}
@@ -47,50 +48,23 @@ use Rattle.calls.specs.Marked.{marked_flight, has_distance, has_fault, has_third
 
 -- ---- a refusal is not 0
 
-state_zero : StateRead → Bool
-state_zero (StateRead.Frame s) = false
-state_zero (StateRead.Refused n) = eqb n 0
-
-no_zero_state : (s : List ℕ) → state_zero (read_state false s) ≡ false
-unfolding read_state state_zero
-no_zero_state s = at (eqb (frame_fault 5 184 s) 0) (state_valid s && raised_valid false s) refl
-  where
-    at : (a b : Bool) → eqb (frame_fault 5 184 s) 0 ≡ a → state_zero (cond a (cond b (StateRead.Frame (state_at s (raised_read false s))) (StateRead.Refused 4)) (StateRead.Refused (frame_fault 5 184 s))) ≡ false
-    at true true e = refl
-    at true false e = refl
-    at false b e = e
-
-telemetry_zero : TelemetryRead → Bool
-telemetry_zero (TelemetryRead.Frame t) = false
-telemetry_zero (TelemetryRead.Refused n) = eqb n 0
-
-no_zero_telemetry : (s : List ℕ) → telemetry_zero (read_telemetry s) ≡ false
-unfolding read_telemetry telemetry_zero
-no_zero_telemetry s = at (eqb (frame_fault 3 104 s) 0) (telemetry_valid s) refl
-  where
-    at : (a b : Bool) → eqb (frame_fault 3 104 s) 0 ≡ a → telemetry_zero (cond a (cond b (TelemetryRead.Frame (narrow.telemetry_at s)) (TelemetryRead.Refused 4)) (TelemetryRead.Refused (frame_fault 3 104 s))) ≡ false
-    at true true e = refl
-    at true false e = refl
-    at false b e = e
+error_zero : (e : FrameError) → eqb (frame_error_number e) 0 ≡ false
+error_zero FrameError.Incomplete = refl
+error_zero FrameError.WrongKind = refl
+error_zero FrameError.WrongLength = refl
+error_zero FrameError.OutOfRange = refl
+error_zero FrameError.NoRoom = refl
 
 -- ---- telemetry that is read
 
-value_or : Telemetry → TelemetryRead → Telemetry
-value_or d (TelemetryRead.Frame t) = t
-value_or d (TelemetryRead.Refused n) = d
-
-value_is : (s : List ℕ) → value_or (narrow.telemetry_at s) (read_telemetry s) ≡ narrow.telemetry_at s
-unfolding read_telemetry value_or
-value_is s = at (eqb (frame_fault 3 104 s) 0) (telemetry_valid s)
+pub telemetry_is : (s : List ℕ) (t : Telemetry) → read_telemetry s ≡ Ok t → narrow.telemetry_at s ≡ t
+unfolding read_telemetry
+telemetry_is s t h = at (check_frame 3 104 s) (telemetry_valid s) h
   where
-    at : (a b : Bool) → value_or (narrow.telemetry_at s) (cond a (cond b (TelemetryRead.Frame (narrow.telemetry_at s)) (TelemetryRead.Refused 4)) (TelemetryRead.Refused (frame_fault 3 104 s))) ≡ narrow.telemetry_at s
-    at true true = refl
-    at true false = refl
-    at false b = refl
-
-pub telemetry_is : (s : List ℕ) (t : Telemetry) → read_telemetry s ≡ TelemetryRead.Frame t → narrow.telemetry_at s ≡ t
-unfolding value_or
-telemetry_is s t h = sym (value_is s) ∙ ap (value_or (narrow.telemetry_at s)) h
+    at : (a : Result ⊤ FrameError) (b : Bool) → result_and a (cond b (Ok (narrow.telemetry_at s)) (Err FrameError.OutOfRange)) ≡ Ok t → narrow.telemetry_at s ≡ t
+    at (Ok tt) true e = cc
+    at (Ok tt) false e = let z : ◌≡◌ {A = ℕ} 0 1 = cc in absurd (omega arith)
+    at (Err x) b e = let z : ◌≡◌ {A = ℕ} 0 1 = cc in absurd (omega arith)
 
 -- ---- an instant put in where there is one
 
@@ -152,10 +126,10 @@ module _ (with_side : Bool) (f : Flight) (areas state telemetry output : List �
   abbrev site : Site
   site = with_areas areas (fence_site_by f.fence f.lengths)
 
-  abbrev y0 : StateRead
+  abbrev y0 : Result Supervisor FrameError
   y0 = read_state false (state_on (replicate 30 0) state)
 
-  abbrev u0 : TelemetryRead
+  abbrev u0 : Result Telemetry FrameError
   u0 = read_telemetry (telemetry_on (replicate 11 0) telemetry)
 
   abbrev N : List ℕ
@@ -180,11 +154,11 @@ module _ (with_side : Bool) (f : Flight) (areas state telemetry output : List �
 
   wide_state : read_wide_state state ≡ with_instants i y0
   unfolding read_wide_state
-  wide_state = rw (eq-eqb _ _ ok_s) refl
+  wide_state = rw (number_zero (check_frame 10 304 state) ok_s) refl
 
   wide_telemetry : read_wide_telemetry telemetry ≡ with_stamps j u0
   unfolding read_wide_telemetry
-  wide_telemetry = rw (eq-eqb _ _ ok_t) refl
+  wide_telemetry = rw (number_zero (check_frame 9 148 telemetry) ok_t) refl
 
   finish : StepCall → StepCall
   finish c =
@@ -199,14 +173,14 @@ module _ (with_side : Bool) (f : Flight) (areas state telemetry output : List �
   declined_both n e low q = record { number = n; state = cond (sym e q) (widened_after state low i j.now j.position output) state; output = output }
 
   -- the heartbeat is there where the marked telemetry has one
-  heartbeat : (u : Telemetry) → u0 ≡ TelemetryRead.Frame u → heartbeat_age with_side f areas state telemetry output ≡ gcs_age plain j.now (instead j.heartbeat u.gcs_heartbeat_ms)
+  heartbeat : (u : Telemetry) → u0 ≡ Ok u → heartbeat_age with_side f areas state telemetry output ≡ gcs_age plain j.now (instead j.heartbeat u.gcs_heartbeat_ms)
   unfolding narrow.telemetry_at option_u32_at telemetry_at
   heartbeat u e =
       let read = telemetry_is R (telemetry_at k u) (low_telemetry_lem ∙ ap (with_stamps k) e) in
       let o = ap (λ (t : Telemetry). t.gcs_heartbeat_ms) read in
       ap (gcs_age plain j.now) (instead_cond (flag_at R 77) j.heartbeat (u32_at R 78) ∙ ap (instead j.heartbeat) o ∙ instead_twice j.heartbeat k.heartbeat u.gcs_heartbeat_ms)
 
-  module _ (y : Supervisor) (is_y : y0 ≡ StateRead.Frame y) (u : Telemetry) where
+  module _ (y : Supervisor) (is_y : y0 ≡ Ok y) (u : Telemetry) where
     abbrev age : ℕ
     age = gcs_age plain j.now (instead j.heartbeat u.gcs_heartbeat_ms)
 
@@ -241,26 +215,24 @@ module _ (with_side : Bool) (f : Flight) (areas state telemetry output : List �
   abbrev mf : Flight
   mf = marked_flight f (heartbeat_age with_side f areas state telemetry output)
 
-  from_telemetry : (y : Supervisor) → y0 ≡ StateRead.Frame y → (b : TelemetryRead) → u0 ≡ b → after_telemetry with_side wide (with_stamps j b) f areas (supervisor_at i y) state output ≡ finish (after_telemetry with_side (base false) (with_stamps k b) mf areas (supervisor_at m y) N output)
-  unfolding telemetry_zero
-  from_telemetry y is_y (TelemetryRead.Refused n) e = declined_both n (sym (ap telemetry_zero e) ∙ no_zero_telemetry (telemetry_on (replicate 11 0) telemetry)) N
-  from_telemetry y is_y (TelemetryRead.Frame u) e =
+  from_telemetry : (y : Supervisor) → y0 ≡ Ok y → (b : Result Telemetry FrameError) → u0 ≡ b → after_telemetry with_side wide (with_stamps j b) f areas (supervisor_at i y) state output ≡ finish (after_telemetry with_side (base false) (with_stamps k b) mf areas (supervisor_at m y) N output)
+  from_telemetry y is_y (Err x) e = declined_both (frame_error_number x) (error_zero x) N
+  from_telemetry y is_y (Ok u) e =
       both_step y is_y u
       ∙ ap (λ (a : ℕ). finish (written with_side (base false) (step_of (base false) (marked_flight f a) areas (supervisor_at m y) (telemetry_at k u)) N output)) (sym (heartbeat u e))
 
-  from_state_lem : (a : StateRead) → y0 ≡ a → after_state with_side wide (with_instants i a) f areas state telemetry output ≡ finish (after_state with_side (base false) (with_instants m a) mf areas N R output)
-  unfolding state_zero
-  from_state_lem (StateRead.Refused n) e = declined_both n (sym (ap state_zero e) ∙ no_zero_state (state_on (replicate 30 0) state)) N
-  from_state_lem (StateRead.Frame y) e =
-      ap (λ (q : TelemetryRead). after_telemetry with_side wide q f areas (supervisor_at i y) state output) wide_telemetry
+  from_state_lem : (a : Result Supervisor FrameError) → y0 ≡ a → after_state with_side wide (with_instants i a) f areas state telemetry output ≡ finish (after_state with_side (base false) (with_instants m a) mf areas N R output)
+  from_state_lem (Err x) e = declined_both (frame_error_number x) (error_zero x) N
+  from_state_lem (Ok y) e =
+      ap (λ (q : Result Telemetry FrameError). after_telemetry with_side wide q f areas (supervisor_at i y) state output) wide_telemetry
       ∙ from_telemetry y e u0 refl
-      ∙ ap (λ (q : TelemetryRead). finish (after_telemetry with_side (base false) q mf areas (supervisor_at m y) N output)) (sym low_telemetry_lem)
+      ∙ ap (λ (q : Result Telemetry FrameError). finish (after_telemetry with_side (base false) q mf areas (supervisor_at m y) N output)) (sym low_telemetry_lem)
 
   whole : from_state with_side wide f areas state telemetry output ≡ finish (from_state with_side (base false) mf areas N R output)
   whole =
-      ap (λ (q : StateRead). after_state with_side wide q f areas state telemetry output) wide_state
+      ap (λ (q : Result Supervisor FrameError). after_state with_side wide q f areas state telemetry output) wide_state
       ∙ from_state_lem y0 refl
-      ∙ ap (λ (q : StateRead). finish (after_state with_side (base false) q mf areas N R output)) (sym low_state_lem)
+      ∙ ap (λ (q : Result Supervisor FrameError). finish (after_state with_side (base false) q mf areas N R output)) (sym low_state_lem)
 
 pub marked_call_lem : MarkedCallClaim
 unfolding marked_call finish

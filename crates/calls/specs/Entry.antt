@@ -1,18 +1,18 @@
 -- The C host's entries: the number returned and every buffer, for all bytes. Assumes nothing.
-use Rattle.std.specs.Prelude.{ℕ, Bool, true, false, cond, List, ◌++◌, eqb, ltb, length, drop}
+use Rattle.std.specs.Prelude.{ℕ, Bool, true, false, cond, List, ◌++◌, eqb, ltb, length, drop, Result, Ok, Err}
 use Rattle.types.specs.declared.Decision.{Decision}
 use Rattle.types.specs.declared.Telemetry.{Telemetry}
 use Rattle.supervisor.specs.declared.Supervisor.{Supervisor}
 use Rattle.supervisor.specs.declared.Stepped.{Stepped}
 use Rattle.supervisor.specs.Settings.{fence_site_by, with_areas, fed_at}
 use Rattle.supervisor.specs.Step.{fresh_supervisor, step}
-use Rattle.wire.specs.Frame.{room_fault, frame_written}
-use Rattle.frame_state.specs.declared.StateRead.{StateRead}
-use Rattle.frame_telemetry.specs.declared.TelemetryRead.{TelemetryRead}
+use Rattle.wire.specs.declared.FrameError.{FrameError}
+use Rattle.wire.specs.Frame.{frame_error_number, room_fault, frame_written}
 use Rattle.frame_decision.specs.DecisionFrame.{decision_frame}
 use Rattle.frame_side.specs.SideFrame.{side_frame}
 use Rattle.flight.specs.declared.Flight.{Flight}
-use Rattle.flight.specs.Flight.{or_refused, read_flight}
+use Rattle.flight.specs.declared.FlightError.{FlightError}
+use Rattle.flight.specs.Flight.{flight_error_number, read_flight}
 use Rattle.frame_areas.specs.AreasFrame.{areas_fault}
 use Rattle.calls.specs.Form.{Form, settings_of, read_state_of, state_frame_of, read_telemetry_of, form_of}
 
@@ -54,25 +54,31 @@ abbrev pub step_of : Form → Flight → List ℕ → Supervisor → Telemetry �
 step_of form f areas s t = step (settings_of form f.cfg) s (fed_at (with_areas areas (fence_site_by f.fence f.lengths)) t)
 
 -- ".. state, telemetry .."
-abbrev pub after_telemetry : Bool → Form → TelemetryRead → Flight → List ℕ → Supervisor → List ℕ → List ℕ → StepCall
-after_telemetry with_side form (TelemetryRead.Refused n) f areas s state output = declined n state output
-after_telemetry with_side form (TelemetryRead.Frame t) f areas s state output = written with_side form (step_of form f areas s t) state output
+abbrev pub after_telemetry : Bool → Form → Result Telemetry FrameError → Flight → List ℕ → Supervisor → List ℕ → List ℕ → StepCall
+after_telemetry with_side form (Err e) f areas s state output = declined (frame_error_number e) state output
+after_telemetry with_side form (Ok t) f areas s state output = written with_side form (step_of form f areas s t) state output
 
-abbrev pub after_state : Bool → Form → StateRead → Flight → List ℕ → List ℕ → List ℕ → List ℕ → StepCall
-after_state with_side form (StateRead.Refused n) f areas state telemetry output = declined n state output
-after_state with_side form (StateRead.Frame s) f areas state telemetry output = after_telemetry with_side form (read_telemetry_of form telemetry) f areas s state output
+abbrev pub after_state : Bool → Form → Result Supervisor FrameError → Flight → List ℕ → List ℕ → List ℕ → List ℕ → StepCall
+after_state with_side form (Err e) f areas state telemetry output = declined (frame_error_number e) state output
+after_state with_side form (Ok s) f areas state telemetry output = after_telemetry with_side form (read_telemetry_of form telemetry) f areas s state output
 
 -- a state's image and what follows it, in a form
 abbrev pub from_state : Bool → Form → Flight → List ℕ → List ℕ → List ℕ → List ℕ → StepCall
 from_state with_side form f areas state telemetry output = after_state with_side form (read_state_of form state) f areas state telemetry output
 
 -- "configuration frame, fence frame, fence rules, configuration rules"; document 02, L3, of the areas: "after the configuration rules"; the first refusal
-abbrev pub refused_first : Flight → List ℕ → ℕ
-refused_first f areas = or_refused f.refused (areas_fault areas)
+abbrev pub refused_first : Result Flight FlightError → List ℕ → ℕ
+refused_first (Err e) areas = flight_error_number e
+refused_first (Ok f) areas = areas_fault areas
 
-abbrev pub after_flight : Bool → Flight → List ℕ → List ℕ → List ℕ → List ℕ → StepCall
-after_flight with_side f areas state telemetry output =
-    cond (eqb (refused_first f areas) 0) (from_state with_side (form_of (flight_keeps f) state) f areas state telemetry output) (declined (refused_first f areas) state output)
+-- an accepted flight, and the number of its areas' refusal
+abbrev pub after_areas : Bool → ℕ → Flight → List ℕ → List ℕ → List ℕ → List ℕ → StepCall
+after_areas with_side n f areas state telemetry output =
+    cond (eqb n 0) (from_state with_side (form_of (flight_keeps f) state) f areas state telemetry output) (declined n state output)
+
+abbrev pub after_flight : Bool → Result Flight FlightError → List ℕ → List ℕ → List ℕ → List ℕ → StepCall
+after_flight with_side (Err e) areas state telemetry output = declined (flight_error_number e) state output
+after_flight with_side (Ok f) areas state telemetry output = after_areas with_side (areas_fault areas) f areas state telemetry output
 
 -- a call of any step entry: `with_side` is whether it writes kind 6, and `areas` is empty where it takes none
 unfoldable pub step_any : Bool → List ℕ → List ℕ → List ℕ → List ℕ → List ℕ → List ℕ → StepCall

@@ -1,14 +1,13 @@
 -- The forms that a state's frame has, each with the telemetry that is due beside it and the clock that both are on. Assumes nothing.
-use Rattle.std.specs.Prelude.{ℕ, ◌+◌, Bool, not, ◌&&◌, cond, List, eqb, replicate}
+use Rattle.std.specs.Prelude.{ℕ, ◌+◌, Bool, not, ◌&&◌, cond, List, eqb, replicate, Result}
 use Rattle.types.specs.declared.Telemetry.{Telemetry}
 use Rattle.time.specs.Time.{Clock, wrapping, plain}
 use Rattle.config.specs.declared.Config.{Config}
 use Rattle.supervisor.specs.declared.Supervisor.{Supervisor}
 use Rattle.supervisor.specs.Settings.{Settings}
+use Rattle.wire.specs.declared.FrameError.{FrameError}
 use Rattle.wire.specs.Fields.{u16_at}
-use Rattle.frame_state.specs.declared.StateRead.{StateRead}
 use Rattle.frame_state.specs.StateFrame.{state_length, read_state, state_frame}
-use Rattle.frame_telemetry.specs.declared.TelemetryRead.{TelemetryRead}
 use Rattle.frame_telemetry.specs.TelemetryFrame.{read_telemetry, telemetry_at}
 use Rattle.instants.specs.Retimed.{telemetry_at as telemetry_on64}
 use Rattle.frame_wide.specs.WideState.{read_wide_state, wide_state_frame}
@@ -29,7 +28,7 @@ abbrev pub state_size : Form → ℕ
 state_size (base keeps) = 2 + state_length keeps
 state_size wide = 306
 
-abbrev pub read_state_of : Form → List ℕ → StateRead
+abbrev pub read_state_of : Form → List ℕ → Result Supervisor FrameError
 read_state_of (base keeps) s = read_state keeps s
 read_state_of wide s = read_wide_state s
 
@@ -37,7 +36,7 @@ abbrev pub state_frame_of : Form → Supervisor → List ℕ
 state_frame_of (base keeps) x = state_frame keeps x
 state_frame_of wide x = wide_state_frame x
 
-abbrev pub read_telemetry_of : Form → List ℕ → TelemetryRead
+abbrev pub read_telemetry_of : Form → List ℕ → Result Telemetry FrameError
 read_telemetry_of (base keeps) s = read_telemetry s
 read_telemetry_of wide s = read_wide_telemetry s
 

@@ -4,7 +4,6 @@ use Rattle.time.specs.Time.{plain}
 use Rattle.triggers.specs.Families.{gcs_age}
 use Rattle.wire.specs.Fields.{u8_at, flag_at}
 use Rattle.wire.specs.Frame.{frame_fault, frame_head}
-use Rattle.frame_state.specs.declared.StateRead.{StateRead}
 use Rattle.flight.specs.declared.Flight.{Flight}
 use Rattle.instants.specs.Retimed.{Instants, Stamps}
 use Rattle.instants.specs.Listed.{listed, stamps_listed}
@@ -16,7 +15,7 @@ use Rattle.calls.specs.Form.{base, wide}
 use Rattle.calls.specs.Entry.{StepCall, from_state}
 
 abbrev pub marked_flight : Flight → ℕ → Flight
-marked_flight f age = record { refused = f.refused; cfg = marked_by f.cfg age; fence = f.fence; lengths = f.lengths }
+marked_flight f age = record { cfg = marked_by f.cfg age; fence = f.fence; lengths = f.lengths }
 
 -- what a Decision's frame says: whether there is a distance, and whether the clock is faulted
 abbrev pub has_distance : List ℕ → Bool
@@ -33,11 +32,6 @@ has_third low output = has_fault output && eqb (u8_at low 184) 0
 abbrev pub widened_after : List ℕ → List ℕ → Instants → ℕ → ℕ → List ℕ → List ℕ
 widened_after state low i now position output =
     frame_head 10 304 ++ widened state_gaps (listed (instants_next state i now position (has_distance output) (has_fault output) (has_third low output))) (drop 4 low)
-
--- the refusal of a state, 0 for none
-abbrev pub refusal_of : StateRead → ℕ
-refusal_of (StateRead.Refused n) = n
-refusal_of (StateRead.Frame s) = 0
 
 -- what the code makes of a call: the step on the marks, and then the kind 10 where it stepped
 module _ (with_side : Bool) (f : Flight) (areas state telemetry output : List ℕ) where

@@ -1,1 +1,2 @@
-pub mod Stamp
+-- What carries a state over.
+pub mod Carried

@@ -1,15 +1,22 @@
 -- Document 02, L7: "A running 32-bit state is carried over without landing. The host gives the last sound reading T in 64 bits". Assumes nothing.
-use Rattle.std.specs.Prelude.{ℕ, ◌-◌, ◌%◌, ◌^◌, Bool, true, false, cond, List, [], ◌∷◌, ◌==◌, Option, Some, None}
+use Rattle.std.specs.Prelude.{ℕ, ◌-◌, ◌%◌, ◌^◌, Bool, true, false, cond, List, [], ◌∷◌, ◌==◌, Option, Some, None, Result, Ok, Err}
 use Rattle.time.specs.Time.{wrapping, wrapping_sub, age, at_most}
 use Rattle.supervisor.specs.declared.Supervisor.{Supervisor}
 use Rattle.wire.specs.Frame.{all_true}
 use Rattle.instants.specs.Retimed.{TimerName, gcs_clear, rc_clear, gps_deg_set, gps_deg_clear, gps_lost_set, gps_lost_clear, ekf_set, ekf_clear, breach_set, breach_clear, alt_max_set, alt_max_clear, alt_min_set, alt_min_clear, stale_clear, warn_set, warn_clear, low_set, low_clear, crit_set, marg_set, marg_clear, infeas_set, invalid_clear, rc_set, timer_of, Instants, supervisor_at}
 use Rattle.instants.specs.Own.{own, position_stamp}
+use Rattle.instants.specs.Listed.{listed}
+use Rattle.carry.specs.declared.CarryError.{CarryError}
 
 -- "34 where last_now is absent or T's low 32 bits differ from it"
 abbrev pub last_is : ℕ → Option ℕ → Bool
 last_is T None = false
 last_is T (Some last) = T % 2 ^ 32 == last
+
+-- whether an instant that may be held has an age, at most T, where the last sound reading's low bits are these
+abbrev pub has_age_at : ℕ → ℕ → Option ℕ → Bool
+has_age_at T last None = true
+has_age_at T last (Some x) = at_most (age wrapping last x) T
 
 module _ (T : ℕ) (s : Supervisor) where
   -- last_now, where it is there
@@ -18,8 +25,7 @@ module _ (T : ℕ) (s : Supervisor) where
 
   -- "35 where a held instant other than the epoch has no age or one above T"
   abbrev pub has_age : Option ℕ → Bool
-  has_age None = true
-  has_age (Some x) = at_most (age wrapping last_of x) T
+  has_age = has_age_at T last_of
 
   abbrev pub timer_has_age : TimerName → Bool
   timer_has_age n = has_age (timer_of s.triggers n).since_ms
@@ -86,6 +92,14 @@ module _ (T : ℕ) (s : Supervisor) where
   abbrev pub widened : Supervisor
   widened = supervisor_at carried s
 
--- "34 where last_now is absent or T's low 32 bits differ from it, then 35 where a held instant other than the epoch has no age or one above T"; 0 for neither
-unfoldable pub refusal_at : Supervisor → ℕ → ℕ
-refusal_at s T = cond (last_is T s.last_now) (cond (have_ages T s) 0 35) 34
+-- "34 where last_now is absent or T's low 32 bits differ from it, then 35 where a held instant other than the epoch has no age or one above T"
+abbrev pub carry_error_number : CarryError → ℕ
+carry_error_number CarryError.OtherReading = 34
+carry_error_number CarryError.NoAge = 35
+
+-- the instants in the order of the frame, or why the state is turned away
+unfoldable pub carry : ℕ → Supervisor → Result (List ℕ) CarryError
+carry T s =
+    cond (last_is T s.last_now)
+    (cond (have_ages T s) (Ok (listed (carried T s))) (Err CarryError.NoAge))
+    (Err CarryError.OtherReading)

@@ -1,11 +1,10 @@
 -- The defaults: the Rust's sixty-two numbers, and its default fence. Assumes nothing.
-use Rattle.std.specs.Prelude.{ℕ, true, false, List, [], ◌∷◌, Float}
+use Rattle.std.specs.Prelude.{ℕ, ◌≡◌, true, false, List, [], ◌∷◌, Float, Ok}
 use Rattle.std.specs.Float.{binary32}
 use Rattle.std.specs.Float.Ieee.{round, neg}
 use Rattle.types.specs.declared.Point2.{Point2}
-use Rattle.geometry.specs.declared.GeofenceResult.{GeofenceResult}
-use Rattle.std.specs.Result.{result_and}
-use Rattle.geometry.specs.Polygon.{polygon_new, geofence_new}
+use Rattle.geometry.specs.declared.Geofence.{Geofence}
+use Rattle.geometry.specs.Polygon.{held_polygon, polygon_new, geofence_new}
 use Rattle.config.specs.declared.Config.{Config}
 
 -- the binary32 number nearest to n / d
@@ -87,8 +86,10 @@ corner n e = record { n = n; e = e }
 abbrev pub default_corners : List Point2
 default_corners = corner (neg (decimal 500 1)) (neg (decimal 500 1)) ∷ corner (neg (decimal 500 1)) (decimal 500 1) ∷ corner (decimal 500 1) (decimal 500 1) ∷ corner (decimal 500 1) (neg (decimal 500 1)) ∷ []
 
-unfoldable pub default_fence : GeofenceResult
-default_fence =
-    let made = polygon_new false 4 default_corners in
-    let fenced = geofence_new made.poly (decimal 5 1) (decimal 120 1) in
-    record { result = result_and made.result fenced.result; fence = fenced.fence }
+unfoldable pub default_fence : Geofence
+default_fence = record { poly = held_polygon default_corners; max_alt_m = decimal 120 1; min_alt_m = decimal 5 1 }
+
+-- the Rust's constructors accept it
+pub record DefaultAccepted : Type 0 where
+  pub corners : polygon_new false 4 default_corners ≡ Ok default_fence.poly
+  pub altitudes : geofence_new default_fence.poly (decimal 5 1) (decimal 120 1) ≡ Ok default_fence

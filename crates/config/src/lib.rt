@@ -1,12 +1,12 @@
 // The Rust's config.rs: the settings, their rules, the defaults.
-#![tactic(auto)]
+#![tactic(auto, unfolding(crate::specs::Config::bad_cell_count, crate::specs::Config::bad_capacity, crate::specs::Config::non_finite_param, crate::specs::Config::non_positive_speed, crate::specs::Config::negative_power, crate::specs::Config::bad_threshold_order, crate::specs::Config::outside_duration, crate::specs::Config::duration_out_of_range, crate::specs::Config::rtl_alt_outside_fence, crate::specs::Config::check_config, crate::specs::Config::validate_config))]
 
 ghost use Rattle.std.specs.Prelude.{◌≡◌};
 ghost use Rattle.config.specs.Config.{config_error_number, bad_cell_count, bad_capacity, non_finite_param, non_positive_speed, negative_power, bad_threshold_order, duration_out_of_range, outside_duration, rtl_alt_outside_fence, check_config, validate_config};
 ghost use Rattle.config.specs.Default.{default_config, default_fence};
 
 use corners::FenceError;
-use geometry::{ConvexPolygon, Geofence, GeofenceResult};
+use geometry::{ConvexPolygon, Geofence};
 use types::Point2;
 
 #[derive(Clone, Copy)]
@@ -77,10 +77,10 @@ pub struct Config {
     pub keeps_raised: bool,
 }
 
-impl Config {
-    pub fn default() -> Self
-        ensures { result ≡ default_config }
-    {
+impl Default for Config {
+    ghost is_default = { λ cfg. cfg ≡ default_config };
+
+    fn default() -> Self {
         Self {
             cell_count: 4,
             usable_capacity_wh: 40.0,
@@ -149,7 +149,7 @@ impl Config {
     }
 }
 
-#[derive(Clone, Copy)]
+#[derive(Clone, Copy, PartialEq, Eq)]
 pub enum ConfigError {
     Fence(FenceError),
     HomeOutsideFence,
@@ -192,8 +192,7 @@ fn bad_cell_count(cfg: Config) -> bool
 fn bad_capacity(cfg: Config) -> bool
     ensures { result ≡ bad_capacity cfg }
 {
-    let finite = float32::is_finite(cfg.usable_capacity_wh);
-    !finite | (cfg.usable_capacity_wh <= 0.0)
+    !float32::is_finite(cfg.usable_capacity_wh) | (cfg.usable_capacity_wh <= 0.0)
 }
 
 fn non_finite_param(cfg: Config) -> bool
@@ -295,39 +294,32 @@ pub fn check_config(
 pub fn validate_config(cfg: Config, fence: Geofence) -> Result<(), ConfigError>
     ensures { result ≡ validate_config cfg fence }
 {
-    let home = Point2 { n: 0.0, e: 0.0 };
-    let poly = fence.poly;
-    let inside = poly.contains(home);
+    let inside = fence.poly.contains(Point2 { n: 0.0, e: 0.0 });
     check_config(cfg, inside, fence.min_alt_m, fence.max_alt_m)
 }
 
-// The corners in the Rust's order; altitudes 5 to 120.
-pub fn default_fence() -> GeofenceResult
+// The corners in the Rust's order; altitudes 5 to 120. The constructors accept them (proofs/Default.antt).
+pub fn default_fence() -> Geofence
     ensures { result ≡ default_fence }
 {
-    let z = Point2 { n: 0.0, e: 0.0 };
-    let mut pts = [z; 16];
-    pts[0] = Point2 {
-        n: -500.0,
-        e: -500.0,
-    };
-    pts[1] = Point2 {
-        n: -500.0,
-        e: 500.0,
-    };
-    pts[2] = Point2 { n: 500.0, e: 500.0 };
-    pts[3] = Point2 {
-        n: 500.0,
-        e: -500.0,
-    };
-    let made = ConvexPolygon::new(pts, 4);
-    let poly = made.poly;
-    let fenced = Geofence::new(poly, 5.0, 120.0);
-    let first = made.result;
-    let second = fenced.result;
-    let fence = fenced.fence;
-    GeofenceResult {
-        result: first.and(second),
-        fence: fence,
+    let corners = [
+        Point2 {
+            n: -500.0,
+            e: -500.0,
+        },
+        Point2 {
+            n: -500.0,
+            e: 500.0,
+        },
+        Point2 { n: 500.0, e: 500.0 },
+        Point2 {
+            n: 500.0,
+            e: -500.0,
+        },
+    ];
+    Geofence {
+        poly: ConvexPolygon::held(&corners),
+        max_alt_m: 120.0,
+        min_alt_m: 5.0,
     }
 }

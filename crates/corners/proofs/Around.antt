@@ -1,127 +1,108 @@
--- The loop that goes once round the corners, handing each on: where it stands, and what its flags say of the whole. Assumes nothing.
-use Rattle.std.specs.Prelude.{Result, Ok, Err, ⊤}
+-- Going once round the corners, each handed on to the next side or turn. Assumes nothing.
+use Rattle.std.specs.Prelude.{None}
+use Rattle.std.specs.List.{list_any}
 use mathlib.Core.Path.{◌≡◌, refl, sym, ap, ◌∙◌}
-use Prim.Native.Nat.{ℕ, ◌+◌, ◌%◌, ◌≤◌, ◌<◌}
-use native.Mathlib.Nat.{mod-eq_of_lt, mod-lt}
+use Prim.Native.Nat.{◌-◌, ◌<◌, ◌≤◌}
 use native.Mathlib.Omega.{arith}
-use mathlib.Core.Bool.{Bool, true, false, ◌&&◌, ◌||◌, cond}
-use mathlib.Core.List.{List, [], ◌∷◌, foldl}
-use lib.Dec.{ltb}
+use mathlib.Core.Bool.{◌||◌}
+use Rattle.std.proofs.Math.Bool.{or_assoc, or-false}
+use mathlib.Core.List.{List, [], ◌∷◌, ◌++◌, foldl}
 use lib.ListN.{length, get_or, take, drop}
-use lib.Ieee.{lt}
-use borrow.Author.Tests.{ltb-true, ltb-false, le-ltb}
-use Rattle.float32.specs.Libm.{fabs}
+use Rattle.std.proofs.lemmas.List.{drop_more, take_rest}
+use lib.Ieee.{Float, binary32, add, mul, lt, of_bits}
+use Rattle.float32.specs.Binary32.{zero_f}
 use Rattle.types.specs.declared.Point2.{Point2}
-use Rattle.corners.specs.Ring.{any_meets, sides, turns, tails}
-use Rattle.std.specs.Result.{result_and}
-use Rattle.corners.specs.Acceptance.{fault_if, first_fault, corner_fault, recurs, flat_turn, mixed_turns, polygon_area, least_area, polygon_tests, polygon_fault}
-use Rattle.corners.specs.OnceRound.{sign_changes}
-use Rattle.corners.specs.Round.{place, failed, round_of}
-use Rattle.corners.specs.declared.FenceError.{FenceError}
-use Rattle.corners.proofs.Laws.{next_less, next_last, corner_at, side_at, turn_at}
+use Rattle.corners.specs.Ring.{beside, sides, turns}
+use Rattle.corners.specs.Acceptance.{half, flat_turn, cross2, area_term, polygon_area}
+use Rattle.corners.specs.Round.{round_of, with_turn, no_turns}
+use Rattle.corners.specs.OnceRound.{sign_changes, closed}
+use Rattle.corners.proofs.OnceRound.{joins, counted}
+use Rattle.corners.specs.declared.Round.{Round}
 
-pub place_next : (i n : ℕ) → i < n → place (i + 1) n ≡ (i + 1) % n
-place_next i n h = cases (ltb (i + 1) n) refl where
-  cases : (b : Bool) → ltb (i + 1) n ≡ b → cond b (i + 1) 0 ≡ (i + 1) % n
-  cases true e = next_less i n (ltb-true _ _ e)
-  cases false e = next_last i n h (ltb-false _ _ e)
+module _ {A : Type 0} where
+  -- a with the first of a list, and so on: the sides of a way that starts at a
+  abbrev pub pairs : A → List A → List (A × A)
+  pairs a [] = []
+  pairs a (b ∷ l) = (a, b) ∷ pairs b l
 
-pub place_within : (i n : ℕ) → i < n → place (i + 1) n < n
-place_within i n h = rw (place_next i n h) (mod-lt (i + 1) (omega arith))
+  -- the turns of a way that starts with a and b
+  abbrev pub triples : A → A → List A → List (A × (A × A))
+  triples a b [] = []
+  triples a b (c ∷ l) = (a, (b, c)) ∷ triples b c l
 
-pub place_most : (k n : ℕ) → place k n ≤ k
-place_most k n = cases (ltb k n) where
-  cases : (b : Bool) → cond b k 0 ≤ k
-  cases true = omega arith
-  cases false = omega arith
+  pairs_beside : (a : A) (l : List A) (z : A) → pairs a (l ++ z ∷ []) ≡ beside (a ∷ l) (l ++ z ∷ [])
+  pairs_beside a [] z = refl
+  pairs_beside a (b ∷ l) z = ap (λ (k : List (A × A)). (a, b) ∷ k) (pairs_beside b l z)
 
--- the third place
-pub place_third : (n : ℕ) → 0 < n → place 2 n ≡ ((0 + 1) % n + 1) % n
-place_third n h = cases (ltb 1 n) refl where
-  cases : (b : Bool) → ltb 1 n ≡ b → place 2 n ≡ ((0 + 1) % n + 1) % n
-  cases true e = let k : 0 + 1 < n = ltb-true 1 n e in rw (mod-eq_of_lt k) (place_next 1 n k)
-  cases false e = let k = ltb-false 1 n e in let o : n ≡ 1 = omega arith in rw o
+  -- the way comes back to its first corner
+  pub sides_round : (a : A) (l : List A) → sides (a ∷ l) ≡ pairs a (l ++ a ∷ [])
+  sides_round a l = sym (pairs_beside a l a)
 
--- a corner, the next, and the place of the one after that, while some are left
-abbrev pub Stands : {A : Type 0} → List A → ℕ → A → ℕ → ℕ → A → A → Type 0
-Stands v n d i k a b = i < n → (a ≡ get_or v i d) × ((b ≡ get_or v ((i + 1) % n) d) × (k ≡ ((i + 1) % n + 1) % n))
+  triples_beside : (a b : A) (l : List A) (y z : A) → triples a b (l ++ y ∷ z ∷ []) ≡ beside (a ∷ b ∷ l) (beside (b ∷ (l ++ y ∷ [])) ((l ++ y ∷ []) ++ z ∷ []))
+  triples_beside a b [] y z = refl
+  triples_beside a b (c ∷ l) y z = ap (λ (k : List (A × (A × A))). (a, (b, c)) ∷ k) (triples_beside b c l y z)
 
-module _ {A : Type 0} (v : List A) (n : ℕ) (room : n ≤ length v) (d : A) where
-  pub stands_first : Stands v n d 0 (place 2 n) (get_or v 0 d) (get_or v (place 1 n) d)
-  stands_first h = (refl, (ap (λ (k : ℕ). get_or v k d) (place_next 0 n h), place_third n h))
+  turns_round : (a b : A) (l : List A) → turns (a ∷ b ∷ l) ≡ triples a b (l ++ a ∷ b ∷ [])
+  turns_round a b l = sym (triples_beside a b l a b)
 
-  module _ (i k : ℕ) (a b : A) (g : Stands v n d i k a b) (h : i < n) where
-    pub place_less : k < n
-    place_less = let m : ((i + 1) % n + 1) % n < n = mod-lt ((i + 1) % n + 1) (omega arith) in omega (arith, (g h).1.1)
+-- the way's turns, one after another
+abbrev pub go : Round → Point2 → Point2 → List Point2 → Round
+go r a b [] = r
+go r a b (c ∷ l) = go (with_turn r (a, (b, c))) b c l
 
-    pub stands_next : Stands v n d (i + 1) (place (k + 1) n) b (get_or v k d)
-    stands_next j =
-        let e : (i + 1) % n ≡ i + 1 = mod-eq_of_lt j in
-        let f : k ≡ (i + 1 + 1) % n = (g h).1.1 ∙ ap (λ (x : ℕ). (x + 1) % n) e in
-        ((g h).1.0 ∙ ap (λ (x : ℕ). get_or v x d) e, (ap (λ (x : ℕ). get_or v x d) f, place_next k n place_less ∙ ap (λ (x : ℕ). (x + 1) % n) f))
+abbrev pub halved : Round → Round
+halved r = record { flat = r.flat; pos = r.pos; neg = r.neg; area = mul binary32 r.area half }
 
-    pub corner_here : drop i (take n v) ≡ a ∷ drop (i + 1) (take n v)
-    corner_here = rw (g h).0 (corner_at v n room i d h)
+abbrev add_side : Float → Point2 × (Point2 × Point2) → Float
+add_side x t = add binary32 x (area_term (t.0, t.1.0))
 
-    pub side_here : drop i (sides (take n v)) ≡ (a, b) ∷ drop (i + 1) (sides (take n v))
-    side_here = rw ((g h).0, (g h).1.0) (side_at v n room i d h)
+go_tests : (r : Round) (a b : Point2) (l : List Point2)
+    → go r a b l
+    ≡ record {
+      flat = r.flat || list_any flat_turn (triples a b l);
+      pos = r.pos || list_any (λ t. lt zero_f (cross2 t)) (triples a b l);
+      neg = r.neg || list_any (λ t. lt (cross2 t) zero_f) (triples a b l);
+      area = foldl add_side r.area (triples a b l);
+    }
+go_tests r a b [] = rw (or-false r.flat, or-false r.pos, or-false r.neg)
+go_tests r a b (c ∷ l) =
+    let t : Point2 × (Point2 × Point2) = (a, (b, c)) in
+    go_tests (with_turn r t) b c l ∙ rw (or_assoc r.flat (flat_turn t) _, or_assoc r.pos (lt zero_f (cross2 t)) _, or_assoc r.neg (lt (cross2 t) zero_f) _)
 
-    pub turn_here : drop i (turns (take n v)) ≡ (a, (b, get_or v k d)) ∷ drop (i + 1) (turns (take n v))
-    turn_here = rw ((g h).0, (g h).1.0, (g h).1.1) (turn_at v n room i d h)
+-- the turns' first sides are all sides
+by_sides : (x : Float) (a b : Point2) (l : List Point2) (y z : Point2)
+    → foldl add_side x (triples a b (l ++ y ∷ z ∷ [])) ≡ foldl (λ x s. add binary32 x (area_term s)) x (pairs a (b ∷ (l ++ y ∷ [])))
+by_sides x a b [] y z = refl
+by_sides x a b (c ∷ l) y z = by_sides (add binary32 x (area_term (a, b))) b c l y z
 
--- a corner has a fault exactly where there is a first one
-failed_and : (v w : Result ⊤ FenceError) → failed (result_and v w) ≡ (failed v || failed w)
-failed_and (Ok tt) w = refl
-failed_and (Err e) w = refl
+-- a list's first element, and the others
+pub parts : {A : Type 0} (v : List A) (d : A) → 1 ≤ length v → v ≡ get_or v 0 d ∷ take (length v - 1) (drop 1 v)
+parts {A} v d h = drop_more v 0 d h ∙ ap (λ (l : List A). get_or v 0 d ∷ l) (sym (take_rest v 1))
 
-failed_round : (v : Result ⊤ FenceError) (l : List Point2) → foldl (λ b p. b || failed (corner_fault p)) (failed v) l ≡ failed (foldl (λ w p. result_and w (corner_fault p)) v l)
-failed_round v [] = refl
-failed_round v (p ∷ l) = rw (← failed_and v (corner_fault p)) (failed_round (result_and v (corner_fault p)) l)
+-- the sides of a list by its first element and the others
+pub sides_of : {A : Type 0} (v : List A) (d : A) → 1 ≤ length v → sides v ≡ pairs (get_or v 0 d) (take (length v - 1) (drop 1 v) ++ get_or v 0 d ∷ [])
+sides_of v d h = ap sides (parts v d h) ∙ sides_round _ _
 
-not_failed : (v : Result ⊤ FenceError) → failed v ≡ false → v ≡ Ok tt
-not_failed (Ok tt) h = refl
-not_failed (Err e) h = let z : ◌≡◌ {A = ℕ} 0 1 = cc in absurd (omega arith)
+pub area_round : (a : Point2) (l : List Point2) → polygon_area (a ∷ l) ≡ mul binary32 (foldl (λ x s. add binary32 x (area_term s)) zero_f (pairs a (l ++ a ∷ []))) half
+unfolding polygon_area
+area_round a l = rw (sides_round a l)
 
-first_decides : (v w x y z u : Result ⊤ FenceError) → failed v ≡ true → result_and (result_and (result_and (result_and (result_and v w) x) y) z) u ≡ v
-first_decides (Err e) w x y z u h = refl
-first_decides (Ok tt) w x y z u h = let z : ◌≡◌ {A = ℕ} 0 1 = cc in absurd (omega arith)
+-- once round
+pub went_round : (a b : Point2) (l : List Point2) → halved (go no_turns a b (l ++ a ∷ b ∷ [])) ≡ round_of (a ∷ b ∷ l)
+unfolding round_of
+went_round a b l =
+    rw (go_tests no_turns a b (l ++ a ∷ b ∷ []), turns_round a b l, by_sides zero_f a b l a b, area_round a (b ∷ l))
 
--- the first error of 3 to 16 corners, test by test
-module _ (once : Bool) (n : ℕ) (l : List Point2) (h : 3 ≤ n) (k : n ≤ 16) where
-  in_range : polygon_fault once n l
-      ≡ result_and (result_and (result_and (result_and (result_and (first_fault corner_fault l) (fault_if (any_meets recurs (tails l)) FenceError.DuplicateVertex)) (fault_if (any_meets flat_turn (turns l)) FenceError.CollinearEdge)) (fault_if (mixed_turns l) FenceError.NotConvex)) (fault_if (once && ltb 2 (sign_changes l)) FenceError.NotOnceRound)) (fault_if (lt (fabs (polygon_area l)) least_area) FenceError.AreaTooSmall)
-  unfolding polygon_tests
-  in_range = rw (le-ltb n 3 h, le-ltb 16 n k)
+pub changes_round : (a : Point2) (l : List Point2) → sign_changes (a ∷ l) ≡ closed (joins None (pairs a (l ++ a ∷ [])))
+changes_round a l = sym (counted (a ∷ l)) ∙ ap (λ (s : List (Point2 × Point2)). closed (joins None s)) (sides_round a l)
 
-  pub fault_corner : (round_of l).failed ≡ true → polygon_fault once n l ≡ first_fault corner_fault l
-  unfolding round_of
-  fault_corner e =
-      let f : failed (first_fault corner_fault l) ≡ true = sym (failed_round (Ok tt) l) ∙ e in
-      in_range ∙ first_decides _ _ _ _ _ _ f
+-- no corners
+pub no_area : (l : List Point2) → length l < 1 → zero_f ≡ polygon_area l
+unfolding polygon_area mul add of_bits
+no_area [] h = refl
+no_area (p ∷ l) h = absurd (omega arith)
 
-  module _ (e : (round_of l).failed ≡ false) where
-    corners_ok : first_fault corner_fault l ≡ Ok tt
-    unfolding round_of
-    corners_ok = not_failed _ (sym (failed_round (Ok tt) l) ∙ e)
-
-    pub fault_duplicate : any_meets recurs (tails l) ≡ true → polygon_fault once n l ≡ Err FenceError.DuplicateVertex
-    fault_duplicate r = rw (in_range, corners_ok, r)
-
-    module _ (r : any_meets recurs (tails l) ≡ false) where
-      pub fault_flat : (round_of l).flat ≡ true → polygon_fault once n l ≡ Err FenceError.CollinearEdge
-      unfolding round_of
-      fault_flat f = rw (in_range, corners_ok, r, f)
-
-      pub fault_mixed : (round_of l).flat ≡ false → ((round_of l).pos && (round_of l).neg) ≡ true → polygon_fault once n l ≡ Err FenceError.NotConvex
-      unfolding round_of mixed_turns
-      fault_mixed f m = rw (in_range, corners_ok, r, f, m)
-
-      pub fault_round : (round_of l).flat ≡ false → ((round_of l).pos && (round_of l).neg) ≡ false → (once && ltb 2 (sign_changes l)) ≡ true
-          → polygon_fault once n l ≡ Err FenceError.NotOnceRound
-      unfolding round_of mixed_turns
-      fault_round f m o = rw (in_range, corners_ok, r, f, m, o)
-
-      pub fault_area : (round_of l).flat ≡ false → ((round_of l).pos && (round_of l).neg) ≡ false → (once && ltb 2 (sign_changes l)) ≡ false
-          → polygon_fault once n l ≡ fault_if (lt (fabs (round_of l).area) least_area) FenceError.AreaTooSmall
-      unfolding round_of mixed_turns
-      fault_area f m o = rw (in_range, corners_ok, r, f, m, o)
+pub no_changes : (l : List Point2) → length l < 1 → 0 ≡ sign_changes l
+unfolding sign_changes
+no_changes [] h = refl
+no_changes (p ∷ l) h = absurd (omega arith)

@@ -4,16 +4,18 @@ use Prim.Native.Nat.{ℕ, ◌+◌, ◌*◌, ◌<◌}
 use native.Mathlib.Nat.{mul-pos, eq-or-lt_of_le}
 use native.Mathlib.Omega.{arith}
 use mathlib.Core.Logic.{inl, inr}
-use mathlib.Core.Bool.{Bool, true, false, not, ◌&&◌, ◌||◌}
-use lib.Dec.{ltb}
+use mathlib.Core.Bool.{Bool, true, false, not, ◌&&◌, ◌||◌, cond}
+use lib.Dec.{ltb, lit<}
 use lib.IntN.{ℤ}
 use borrow.Author.Tests.{lt-ltb, le-ltb, ltb-true, ltb-false, eqb-true, eqb-false}
-use lib.Ieee.{Float, nan, inf, fin, lt, le, eq, up, down}
+use lib.Ieee.{Float, nan, inf, fin, of_bits, neg, lt, le, eq, up, down}
 use lib.Ieee.Fits.{up_pos, down_pos}
+use Rattle.std.specs.Prelude.{Ok, Err}
+use Rattle.types.specs.declared.Point2.{Point2}
 use Rattle.float32.specs.Libm.{is_finite, fabs}
 use Rattle.std.specs.Result.{result_and}
-use Rattle.corners.specs.Acceptance.{fault_if}
-use Rattle.corners.specs.Round.{failed}
+use Rattle.corners.specs.Acceptance.{envelope, fault_if, corner_fault}
+use Rattle.corners.specs.Round.{within}
 use Rattle.corners.specs.declared.FenceError.{FenceError}
 
 and_true : (b : Bool) → (b && true) ≡ b
@@ -48,11 +50,18 @@ module _ (p : ℕ) (q : ℤ) (some : 0 < p) where
   size_within (fin false m e) = rw (lt-ltb 0 (p * up q * down e + m * up e * down q) (omega (arith, above_zero e))) (and_true _ ∙ at_most (m * up e * down q) (p * up q * down e) _ (eqb-true _ _) (eqb-false _ _))
   size_within (fin true m e) = rw (lt-ltb 0 (m * up e * down q + p * up q * down e) (omega (arith, above_zero e))) (at_most (m * up e * down q) (p * up q * down e) _ (λ g. sym (eqb-true _ _ g)) (λ g k. eqb-false _ _ g (sym k)))
 
--- no fault of a corner: both coordinates finite, and neither above the limit
-pub no_fault : (a b c d : Bool) → not ((a && not b) && (c && not d)) ≡ failed (result_and (fault_if (not a || not c) FenceError.NonFinite) (fault_if (b || d) FenceError.OutOfEnvelope))
-no_fault false b c d = refl
-no_fault true true false d = refl
-no_fault true true true d = refl
-no_fault true false false d = refl
-no_fault true false true true = refl
-no_fault true false true false = refl
+by_tests : (a b c d : Bool) → cond ((a && not b) && (c && not d)) (Ok tt) (cond (a && c) (Err FenceError.OutOfEnvelope) (Err FenceError.NonFinite))
+    ≡ result_and (fault_if (not a || not c) FenceError.NonFinite) (fault_if (b || d) FenceError.OutOfEnvelope)
+by_tests false b c d = refl
+by_tests true true false d = refl
+by_tests true true true d = refl
+by_tests true false false d = refl
+by_tests true false true true = refl
+by_tests true false true false = refl
+
+-- the fault of a corner, by the code's tests
+pub corner_tests : (p : Point2) → cond (within p.n && within p.e) (Ok tt) (cond (is_finite p.n && is_finite p.e) (Err FenceError.OutOfEnvelope) (Err FenceError.NonFinite)) ≡ corner_fault p
+unfolding corner_fault of_bits neg
+corner_tests p =
+    rw (size_within _ _ (lit< tt) p.n, size_within _ _ (lit< tt) p.e)
+    (by_tests (is_finite p.n) (lt envelope (fabs p.n)) (is_finite p.e) (lt envelope (fabs p.e)))

@@ -1,5 +1,4 @@
--- One law for every loop: what is left of a list from i on is its element at i and what is left from i + 1 on. Here for the corners, sides, turns and tails of
--- the first n places of an array. Assumes nothing.
+-- One law for every loop: what is left of a list from i on is its element at i and what is left from i + 1 on. Here for the sides of the first n places of an array. Assumes nothing.
 use mathlib.Core.Path.{◌≡◌, refl, sym, ap, ◌∙◌}
 use Prim.Native.Nat.{ℕ, zero, suc, ◌+◌, ◌%◌, ◌≤◌, ◌<◌}
 use native.Mathlib.Nat.{mod-eq_of_lt, mod_self, mod-lt, not-suc-le-zero, le_of_suc-le-suc, eq-or-lt_of_le}
@@ -9,7 +8,7 @@ use mathlib.Core.Logic.{◌⊎◌, inl, inr}
 use mathlib.Core.List.{List, [], ◌∷◌, ◌++◌, zip}
 use lib.ListN.{length, get_or, take, drop, length-append, get_or-append, drop_of_length-le}
 use lib.Seq.{drop-cons, get_or_at, get_or-take, length-take-le}
-use Rattle.corners.specs.Ring.{beside, turned, sides, turns, tails}
+use Rattle.corners.specs.Ring.{beside, turned, sides}
 
 module _ {A B : Type 0} where
   pub beside_is_zip : (l : List A) (m : List B) → beside l m ≡ zip l m
@@ -66,35 +65,10 @@ module _ {A : Type 0} where
   pub length-sides : (l : List A) → length (sides l) ≡ length l
   length-sides l = length-beside l (turned l) (omega (arith, length-turned l))
 
-  pub length-turns : (l : List A) → length (turns l) ≡ length l
-  length-turns l = length-beside l (sides (turned l)) (omega (arith, length-sides (turned l), length-turned l))
-
-  pub length-tails : (l : List A) → length (tails l) ≡ length l
-  length-tails [] = refl
-  length-tails (a ∷ l) = ap suc (length-tails l)
-
   pub get_or-sides : (l : List A) (i : ℕ) (d : A) → i < length l → get_or (sides l) i (d, d) ≡ (get_or l i d, get_or l ((i + 1) % length l) d)
   get_or-sides l i d h = rw (get_d_beside l (turned l) i d d h (omega (arith, length-turned l)), get_or-turned l i d h)
 
-  pub get_or-tails : (l : List A) (i : ℕ) (d : A) (e : List A) → i < length l → get_or (tails l) i (d, e) ≡ (get_or l i d, drop (i + 1) l)
-  get_or-tails [] i d e h = absurd (not-suc-le-zero h)
-  get_or-tails (a ∷ l) zero d e h = refl
-  get_or-tails (a ∷ l) (suc i) d e h = rw (get_or-tails l i d e (le_of_suc-le-suc h)) (simp add-one)
-
-  pub get_or-turns : (l : List A) (i : ℕ) (d : A) → i < length l
-      → get_or (turns l) i (d, (d, d)) ≡ (get_or l i d, (get_or l ((i + 1) % length l) d, get_or l (((i + 1) % length l + 1) % length l) d))
-  get_or-turns l i d h =
-      let e : length (turned l) ≡ length l = length-turned l in
-      let f : length (sides (turned l)) ≡ length l = length-sides (turned l) ∙ e in
-      let m : (i + 1) % length l < length l = mod-lt (i + 1) (omega arith) in
-      rw (get_d_beside l (sides (turned l)) i d (d, d) h (omega arith), get_or-sides (turned l) i d (omega arith), e, get_or-turned l i d h, get_or-turned l ((i + 1) % length l) d m)
-
 module _ {A : Type 0} (v : List A) (n : ℕ) (room : n ≤ length v) where
-  pub corner_at : (i : ℕ) (d : A) → i < n → drop i (take n v) ≡ get_or v i d ∷ drop (i + 1) (take n v)
-  corner_at i d h =
-      let e : length (take n v) ≡ n = length-take-le n v room in
-      rw (left_at (take n v) i d (omega arith), get_or-take n v i d)
-
   pub side_is : (i : ℕ) (d : A) → i < n → get_or (sides (take n v)) i (d, d) ≡ (get_or v i d, get_or v ((i + 1) % n) d)
   side_is i d h =
       let e : length (take n v) ≡ n = length-take-le n v room in
@@ -116,31 +90,8 @@ module _ {A : Type 0} (v : List A) (n : ℕ) (room : n ≤ length v) where
       let f : length s ≤ length m = omega arith in
       rw (left_at (beside s m) i ((d, d), b) (omega (arith, length-beside s m f)), get_d_beside s m i (d, d) b (omega arith) f, side_is i d h)
 
-  pub turn_at : (i : ℕ) (d : A) → i < n
-      → drop i (turns (take n v)) ≡ (get_or v i d, (get_or v ((i + 1) % n) d, get_or v (((i + 1) % n + 1) % n) d)) ∷ drop (i + 1) (turns (take n v))
-  turn_at i d h =
-      let e : length (take n v) ≡ n = length-take-le n v room in
-      let m : (i + 1) % n < n = mod-lt (i + 1) (omega arith) in
-      let k : ((i + 1) % n + 1) % n < n = mod-lt ((i + 1) % n + 1) (omega arith) in
-      rw (left_at (turns (take n v)) i (d, (d, d)) (omega (arith, length-turns (take n v))), get_or-turns (take n v) i d (omega arith), e, get_or-take n v i d h, get_or-take n v ((i + 1) % n) d m, get_or-take n v (((i + 1) % n + 1) % n) d k)
-
-  pub tail_at : (i : ℕ) (d : A) → i < n → drop i (tails (take n v)) ≡ (get_or v i d, drop (i + 1) (take n v)) ∷ drop (i + 1) (tails (take n v))
-  tail_at i d h =
-      let e : length (take n v) ≡ n = length-take-le n v room in
-      rw (left_at (tails (take n v)) i (d, []) (omega (arith, length-tails (take n v))), get_or-tails (take n v) i d [] (omega arith), get_or-take n v i d h)
-
-  -- past the last place nothing is left
-  pub corner_end : (i : ℕ) → n ≤ i → drop i (take n v) ≡ []
-  corner_end i h = drop_of_length-le (take n v) {i = i} (omega (arith, length-take-le n v room))
-
   pub side_end : (i : ℕ) → n ≤ i → drop i (sides (take n v)) ≡ []
   side_end i h = drop_of_length-le (sides (take n v)) {i = i} (omega (arith, side_count))
 
   pub side_beside_end : {B : Type 0} (m : List B) (i : ℕ) → n ≤ length m → n ≤ i → drop i (beside (sides (take n v)) m) ≡ []
   side_beside_end m i k h = drop_of_length-le (beside (sides (take n v)) m) {i = i} (omega (arith, length-beside (sides (take n v)) m (omega (arith, side_count)), side_count))
-
-  pub turn_end : (i : ℕ) → n ≤ i → drop i (turns (take n v)) ≡ []
-  turn_end i h = drop_of_length-le (turns (take n v)) {i = i} (omega (arith, length-turns (take n v), length-take-le n v room))
-
-  pub tail_end : (i : ℕ) → n ≤ i → drop i (tails (take n v)) ≡ []
-  tail_end i h = drop_of_length-le (tails (take n v)) {i = i} (omega (arith, length-tails (take n v), length-take-le n v room))

@@ -6,4 +6,3 @@ pub mod Callers
 pub mod Constants
 pub mod Bounds
 pub mod Around
-pub mod Pairs

@@ -1,51 +1,59 @@
 -- The code's one pass counts the changes. Assumes nothing.
-use mathlib.Core.Path.{◌≡◌, refl, ap, ◌∙◌}
-use Prim.Native.Nat.{ℕ, zero, suc, ◌+◌, ◌≤◌}
+use Rattle.std.specs.Prelude.{Option, Some, None}
+use mathlib.Core.Path.{◌≡◌, refl}
+use Prim.Native.Nat.{ℕ, ◌+◌, ◌≤◌}
 use native.Mathlib.Omega.{arith}
-use mathlib.Core.Bool.{Bool, true, false, cond}
-use mathlib.Core.List.{List, [], ◌∷◌, ◌++◌, map, foldl}
-use lib.Dec.{eqb}
+use mathlib.Core.List.{List, [], ◌∷◌, ◌++◌, map}
 use Rattle.corners.specs.Ring.{beside, sides}
-use Rattle.corners.specs.OnceRound.{north_sign, nonzero, differ, tally, sign_changes, join, join_if, closed, unsigned}
+use Rattle.corners.specs.OnceRound.{north_sign, nonzero, differ, tally, sign_changes, join, closed}
 use Rattle.types.specs.declared.Point2.{Point2}
-use Rattle.corners.specs.declared.Signs.{Signs}
+use Rattle.corners.specs.declared.Heading.{Heading}
+use Rattle.corners.specs.declared.Heading.TheVariants.{North, South}
+use Rattle.corners.specs.declared.Headings.{Headings}
 
-fold_map : {A B C : Type 0} (h : C → B → C) (f : A → B) (c : C) (l : List A) → foldl (λ x a. h x (f a)) c l ≡ foldl h c (map f l)
-fold_map h f c [] = refl
-fold_map h f c (a ∷ l) = fold_map h f (h c (f a)) l
+-- the signs of a list of sides, joined to what was seen
+abbrev pub joins : Option Headings → List (Point2 × Point2) → Option Headings
+joins s [] = s
+joins s (t ∷ l) = joins (join s (north_sign t)) l
 
-skipped : (s : Signs) (l : List ℕ) → foldl join_if s l ≡ foldl join s (nonzero l)
-skipped s [] = refl
-skipped s (zero ∷ l) = skipped s l
-skipped s (suc k ∷ l) = skipped (join s (suc k)) l
+-- a list whose first sign is known, or none
+by_sign : (a x : Heading) (c : ℕ) (g : Option Heading) (l : List (Point2 × Point2))
+    → ((y : Heading) (k : ℕ) → closed (joins (Some (record { first = a; last = y; changes = k })) l) ≡ tally k (beside (y ∷ nonzero (map north_sign l)) (nonzero (map north_sign l) ++ a ∷ [])))
+    → closed (joins (join (Some (record { first = a; last = x; changes = c })) g) l) ≡ tally c (beside (x ∷ nonzero (g ∷ map north_sign l)) (nonzero (g ∷ map north_sign l) ++ a ∷ []))
+by_sign a x c None l rest = rest x c
+by_sign a x c (Some y) l rest = rest y (c + differ x y)
 
-run : (a x c : ℕ) (l : List ℕ) → closed (foldl join (record { started = true; first = a; last = x; count = c }) l) ≡ tally c (beside (x ∷ l) (l ++ a ∷ []))
+run : (a x : Heading) (c : ℕ) (l : List (Point2 × Point2))
+    → closed (joins (Some (record { first = a; last = x; changes = c })) l) ≡ tally c (beside (x ∷ nonzero (map north_sign l)) (nonzero (map north_sign l) ++ a ∷ []))
 run a x c [] = refl
-run a x c (y ∷ l) = run a y (c + differ x y) l
+run a x c (t ∷ l) = by_sign a x c (north_sign t) l (λ y k. run a y k l)
 
-round : (l : List ℕ) → closed (foldl join unsigned l) ≡ tally 0 (sides l)
+by_first : (g : Option Heading) (l : List (Point2 × Point2)) → closed (joins None l) ≡ tally 0 (sides (nonzero (map north_sign l)))
+    → closed (joins (join None g) l) ≡ tally 0 (sides (nonzero (g ∷ map north_sign l)))
+by_first None l rest = rest
+by_first (Some y) l rest = run y y 0 l
+
+round : (l : List (Point2 × Point2)) → closed (joins None l) ≡ tally 0 (sides (nonzero (map north_sign l)))
 round [] = refl
-round (g ∷ l) = run g g 0 l
+round (t ∷ l) = by_first (north_sign t) l (round l)
 
-pub counted : (l : List Point2) → closed (foldl (λ s t. join_if s (north_sign t)) unsigned (sides l)) ≡ sign_changes l
+pub counted : (l : List Point2) → closed (joins None (sides l)) ≡ sign_changes l
 unfolding sign_changes
-counted l = ap closed (fold_map join_if north_sign unsigned (sides l) ∙ skipped unsigned (map north_sign (sides l))) ∙ round (nonzero (map north_sign (sides l)))
+counted l = round (sides l)
 
-one_at_most : (b : Bool) → cond b 0 1 ≤ 1
-one_at_most true = omega arith
-one_at_most false = omega arith
+-- one more than the changes of what was seen
+abbrev pub sides_at_least : Option Headings → ℕ
+sides_at_least None = 0
+sides_at_least (Some s) = s.changes + 1
 
-pub differ_le : (a b : ℕ) → differ a b ≤ 1
-differ_le a b = one_at_most (eqb a b)
+differ_le : (a b : Heading) → differ a b ≤ 1
+differ_le North North = omega arith
+differ_le North South = omega arith
+differ_le South North = omega arith
+differ_le South South = omega arith
 
-by_start : (b : Bool) (s : Signs) (g : ℕ) → (cond {A = Signs} b (record { started = true; first = s.first; last = g; count = s.count + differ s.last g }) (record { started = true; first = g; last = g; count = 0 })).count ≤ s.count + 1
-by_start true s g = omega (arith, differ_le s.last g)
-by_start false s g = omega arith
-
-pub grows : (s : Signs) (g : ℕ) → (join_if s g).count ≤ s.count + 1
-grows s zero = omega arith
-grows s (suc k) = by_start s.started s (suc k)
-
-pub join_if_lem : (s : Signs) (g : ℕ) → (g ≡ 0 → ⊥) → join_if s g ≡ join s g
-join_if_lem s zero h = absurd (h refl)
-join_if_lem s (suc k) h = refl
+pub join_adds : (s : Option Headings) (g : Option Heading) → sides_at_least (join s g) ≤ sides_at_least s + 1
+join_adds None None = omega arith
+join_adds (Some s) None = omega arith
+join_adds None (Some g) = omega arith
+join_adds (Some s) (Some g) = omega (arith, differ_le s.last g)

@@ -1,16 +1,16 @@
 -- Which corners are accepted. The quotations without a name are of document 01's paragraph on geometry. Assumes nothing.
-use Rattle.std.specs.Prelude.{ℕ, Bool, not, ◌&&◌, ◌||◌, cond, ltb, Float, Result, Ok, Err, ⊤}
+use Rattle.std.specs.Prelude.{ℕ, Bool, not, ◌&&◌, ◌||◌, cond, ltb, length, Float, Result, Ok, Err, ⊤}
 use mathlib.Core.List.{List, [], ◌∷◌, foldl}
+use Rattle.std.specs.List.{list_any}
 use Rattle.std.specs.Result.{result_and}
 use Rattle.std.specs.Float.{binary32}
 use Rattle.std.specs.Float.Ieee.{add, sub, mul, lt, eq, of_bits}
 use Rattle.float32.specs.Binary32.{zero_f}
 use Rattle.float32.specs.Libm.{is_finite, fabs}
 use Rattle.types.specs.declared.Point2.{Point2}
-use Rattle.corners.specs.Ring.{any_meets, sides, turns, tails}
+use Rattle.corners.specs.Ring.{sides, turns, tails}
 use Rattle.corners.specs.declared.FenceError.{FenceError}
 use Rattle.corners.specs.OnceRound.{sign_changes}
-use Rattle.corners.specs.declared.Judged.{Judged}
 
 -- 10,000; 0.0001; 100; 0.5: proofs/Constants.antt has that each is the nearest binary32 number
 abbrev pub envelope : Float
@@ -43,7 +43,8 @@ fault_if b e = cond b (Err e) (Ok tt)
 
 -- the first error that a test finds in a list
 abbrev pub first_fault : {A : Type 0} → (A → Result ⊤ FenceError) → List A → Result ⊤ FenceError
-first_fault f = foldl (λ v a. result_and v (f a)) (Ok tt)
+first_fault f [] = Ok tt
+first_fault f (a ∷ l) = result_and (f a) (first_fault f l)
 
 -- "per corner finite, then within ±10,000"
 unfoldable pub corner_fault : Point2 → Result ⊤ FenceError
@@ -57,7 +58,7 @@ same_point p q = eq p.n q.n && eq p.e q.e
 
 -- "duplicates": a corner is again among those after it
 abbrev pub recurs : Point2 × List Point2 → Bool
-recurs t = any_meets (same_point t.0) t.1
+recurs t = list_any (same_point t.0) t.1
 
 -- "any turn under 0.0001 in size": the size goes by the turn's two sides, as in the Rust's normalize_ccw
 unfoldable pub flat_turn : Point2 × (Point2 × Point2) → Bool
@@ -83,7 +84,7 @@ cross2 t =
 
 -- "mixed turn signs"; "Equal turn signs count as convex, without a look at crossing sides."
 unfoldable pub mixed_turns : List Point2 → Bool
-mixed_turns l = any_meets (λ t. lt zero_f (cross2 t)) (turns l) && any_meets (λ t. lt (cross2 t) zero_f) (turns l)
+mixed_turns l = list_any (λ t. lt zero_f (cross2 t)) (turns l) && list_any (λ t. lt (cross2 t) zero_f) (turns l)
 
 unfoldable pub area_term : Point2 × Point2 → Float
 area_term s = sub binary32 (mul binary32 s.0.n s.1.e) (mul binary32 s.1.n s.0.e)
@@ -99,8 +100,8 @@ polygon_tests once n l =
     fault_if (ltb n 3) FenceError.TooFewVertices
     ∷ fault_if (ltb 16 n) FenceError.TooManyVertices
     ∷ first_fault corner_fault l
-    ∷ fault_if (any_meets recurs (tails l)) FenceError.DuplicateVertex
-    ∷ fault_if (any_meets flat_turn (turns l)) FenceError.CollinearEdge
+    ∷ fault_if (list_any recurs (tails l)) FenceError.DuplicateVertex
+    ∷ fault_if (list_any flat_turn (turns l)) FenceError.CollinearEdge
     ∷ fault_if (mixed_turns l) FenceError.NotConvex
     ∷ fault_if (once && ltb 2 (sign_changes l)) FenceError.NotOnceRound
     ∷ fault_if (lt (fabs (polygon_area l)) least_area) FenceError.AreaTooSmall
@@ -110,6 +111,6 @@ polygon_tests once n l =
 abbrev pub polygon_fault : Bool → ℕ → List Point2 → Result ⊤ FenceError
 polygon_fault once n l = first_fault (λ v. v) (polygon_tests once n l)
 
--- it, and the corners' area
-unfoldable pub judged : Bool → ℕ → List Point2 → Judged
-judged once n l = record { result = polygon_fault once n l; area = polygon_area l }
+-- the corners' area, where they have no fault
+unfoldable pub judged : Bool → List Point2 → Result Float FenceError
+judged once l = result_and (polygon_fault once (length l) l) (Ok (polygon_area l))

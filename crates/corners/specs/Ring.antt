@@ -1,6 +1,5 @@
--- Going round a list of corners: its sides and its turns, and whether one of a list meets a test. Assumes nothing.
-use Rattle.std.specs.Prelude.{Bool, false, ◌||◌}
-use mathlib.Core.List.{List, [], ◌∷◌, ◌++◌, foldl}
+-- Going round a list of corners: its sides and its turns. Assumes nothing.
+use mathlib.Core.List.{List, [], ◌∷◌, ◌++◌}
 
 module _ {A B : Type 0} where
   -- the elements of two lists side by side, as many as both have: the library's zip (proofs/Laws.antt), in a form that computes by itself
@@ -10,10 +9,6 @@ module _ {A B : Type 0} where
   beside (a ∷ l) (b ∷ m) = (a, b) ∷ beside l m
 
 module _ {A : Type 0} where
-  -- whether an element meets a test
-  abbrev pub any_meets : (A → Bool) → List A → Bool
-  any_meets f l = foldl (λ b a. b || f a) false l
-
   -- in each element's place the one after it, the first after the last
   abbrev pub turned : List A → List A
   turned [] = []

@@ -1,15 +1,17 @@
 // Which corners a fence or an area may have: the rules of the Rust's geometry.rs, and the rule of kind 8.
-#![tactic(auto)]
+#![tactic(auto, unfolding(crate::specs::Acceptance::corner_fault, crate::specs::Acceptance::same_point, crate::specs::Acceptance::cross2, crate::specs::Acceptance::area_term, crate::specs::Acceptance::polygon_area, crate::specs::Acceptance::mixed_turns, crate::specs::Acceptance::polygon_tests, crate::specs::Acceptance::judged, crate::specs::OnceRound::north_sign, crate::specs::Round::round_of))]
 
-ghost use Rattle.std.specs.Prelude.{◌≡◌, ◌≤◌, min, ◌&&◌, ltb, take};
-ghost use Rattle.corners.specs.Ring.{any_meets, tails};
-ghost use Rattle.corners.specs.Round.{place, failed, round_of};
-ghost use Rattle.corners.specs.Acceptance.{fence_error_number, fault_if, first_fault, corner_fault, same_point, recurs, flat_turn, cross2, area_term, polygon_area, polygon_fault, judged};
-ghost use Rattle.corners.specs.OnceRound.{north_sign, differ, join_if, sign_changes};
+ghost use Rattle.std.specs.Prelude.{◌≡◌, min, ◌+◌, ◌^◌, ◌<◌, ◌∷◌};
+ghost use Rattle.std.specs.List.{list_any};
+ghost use Rattle.std.specs.Option.{ForSome};
+ghost use Rattle.corners.specs.Ring.{tails};
+ghost use Rattle.corners.specs.Round.{checked_round, with_turn, within};
+ghost use Rattle.corners.specs.Acceptance.{fence_error_number, fault_if, corner_fault, same_point, recurs, flat_turn, cross2, area_term, polygon_area, judged};
+ghost use Rattle.corners.specs.OnceRound.{north_sign, differ, join, sign_changes};
 
 use types::Point2;
 
-#[derive(Clone, Copy)]
+#[derive(Clone, Copy, PartialEq, Eq)]
 pub enum FenceError {
     TooFewVertices = 10,
     TooManyVertices = 11,
@@ -25,7 +27,7 @@ pub enum FenceError {
 }
 
 impl FenceError {
-    // The number of the refusal.
+    // The number of the refusal: what a C host is answered.
     pub fn number(self) -> u16
         ensures { result ≡ fence_error_number self }
     {
@@ -39,30 +41,42 @@ pub fn fault_if(test: bool, e: FenceError) -> Result<(), FenceError>
     if test { Err(e) } else { Ok(()) }
 }
 
-// What one way round a polygon's corners tells: whether a corner has a fault, a turn is flat, goes left, goes right; the area.
+// What one way round a polygon's corners tells: whether a turn is flat, goes left, goes right; the area.
 #[derive(Clone, Copy)]
 struct Round {
-    failed: bool,
     flat: bool,
     pos: bool,
     neg: bool,
     area: f32,
 }
 
-// The signs of the north steps so far: whether there is one, the first, the last, and how often they changed.
-#[derive(Clone, Copy)]
-struct Signs {
-    started: bool,
-    first: u8,
-    last: u8,
-    count: usize,
+impl Round {
+    fn with_turn(self, a: Point2, b: Point2, c: Point2) -> Round
+        ensures { result ≡ with_turn self (a, (b, c)) }
+    {
+        let x = cross2(a, b, c);
+        Round {
+            flat: self.flat | flat_turn(a, b, c),
+            pos: self.pos | (x > 0.0),
+            neg: self.neg | (x < 0.0),
+            area: self.area + area_term(a, b),
+        }
+    }
 }
 
-// The first error of some corners, and the area that they enclose.
+// The way that a side goes.
+#[derive(Clone, Copy, PartialEq, Eq)]
+enum Heading {
+    North,
+    South,
+}
+
+// The headings so far, at least one: the first, the last, and how often they changed.
 #[derive(Clone, Copy)]
-pub struct Judged {
-    pub result: Result<(), FenceError>,
-    pub area: f32,
+struct Headings {
+    first: Heading,
+    last: Heading,
+    changes: usize,
 }
 
 // A count, at most that of the array's places.
@@ -72,83 +86,51 @@ pub fn capped(n: usize) -> usize
     if n < 16 { n } else { 16 }
 }
 
-// The place k of a ring of n, the first after the last.
-fn wrapped(k: usize, n: usize) -> usize
-    ensures { result ≡ place k n }
+// A NaN is in no interval.
+fn within(x: f32) -> bool
+    ensures { result ≡ within x }
 {
-    if k < n { k } else { 0 }
+    (x <= 10_000.0) & (x >= -10_000.0)
 }
 
 fn corner_fault(p: Point2) -> Result<(), FenceError>
     ensures { result ≡ corner_fault p }
 {
-    let finite_n = float32::is_finite(p.n);
-    let finite_e = float32::is_finite(p.e);
-    let size_n = float32::fabsf(p.n);
-    let size_e = float32::fabsf(p.e);
-    let non_finite = fault_if(!finite_n | !finite_e, FenceError::NonFinite);
-    let outside = fault_if(
-        (size_n > 10_000.0) | (size_e > 10_000.0),
-        FenceError::OutOfEnvelope,
-    );
-    non_finite.and(outside)
-}
-
-// Whether a corner has a fault: a NaN is in no interval.
-fn corner_failed(p: Point2) -> bool
-    ensures { result ≡ failed (corner_fault p) }
-{
-    let in_n = (p.n <= 10_000.0) & (p.n >= -10_000.0);
-    let in_e = (p.e <= 10_000.0) & (p.e >= -10_000.0);
-    !(in_n & in_e)
-}
-
-fn corners_fault(pts: [Point2; 16], n: usize) -> Result<(), FenceError>
-    requires { n ≤ 16 }
-    ensures { result ≡ first_fault corner_fault (take n pts) }
-{
-    let mut v = Ok(());
-    let mut i: usize = 0;
-    while i < n {
-        let p = pts[i];
-        v = v.and(corner_fault(p));
-        i += 1;
+    if within(p.n) & within(p.e) {
+        return Ok(());
     }
-    v
+    if float32::is_finite(p.n) & float32::is_finite(p.e) {
+        Err(FenceError::OutOfEnvelope)
+    } else {
+        Err(FenceError::NonFinite)
+    }
 }
 
+// As floats: −0 equals 0, and a NaN equals nothing.
 fn same_point(p: Point2, q: Point2) -> bool
     ensures { result ≡ same_point p q }
 {
-    if p.n == q.n { p.e == q.e } else { false }
+    p.n == q.n && p.e == q.e
 }
 
-// Each corner p at i with each q after it, until two are alike.
-fn has_duplicate(pts: [Point2; 16], n: usize) -> bool
-    requires { n ≤ 16 }
-    ensures { result ≡ any_meets recurs (tails (take n pts)) }
+fn recurs(p: Point2, after: &[Point2]) -> bool
+    ensures { result ≡ recurs (p, after.now) }
 {
-    if n < 2 {
-        return false;
-    }
-    let mut i: usize = 0;
-    let mut j: usize = 1;
-    let mut p = pts[0];
-    loop {
-        let q = pts[j];
-        if same_point(p, q) {
+    after.iter().any(|q| same_point(p, *q))
+}
+
+// No index is counted: the corners that are left shrink by a slice pattern.
+fn has_duplicate(pts: &[Point2]) -> bool
+    ensures { result ≡ list_any recurs (tails pts.now) }
+{
+    let mut left = pts;
+    while let [p, after @ ..] = left {
+        if recurs(*p, after) {
             return true;
         }
-        j += 1;
-        if j >= n {
-            i += 1;
-            j = i + 1;
-            if j >= n {
-                return false;
-            }
-            p = pts[i];
-        }
+        left = after;
     }
+    false
 }
 
 // The size of a turn goes by its two sides; its sign, in cross2, by the first corner.
@@ -175,187 +157,127 @@ fn area_term(a: Point2, b: Point2) -> f32
     a.n * b.e - b.n * a.e
 }
 
-// All that one way round the corners tells: each corner is handed on from turn to turn.
-fn go_round(pts: [Point2; 16], n: usize) -> Round
-    requires { n ≤ 16 }
-    ensures { result ≡ round_of (take n pts) }
+// All that one way round the corners tells, from the first two on: each corner is handed on from turn to turn.
+fn go_round(first: Point2, second: Point2, rest: &[Point2]) -> Result<Round, FenceError>
+    ensures { result ≡ checked_round (first ∷ second ∷ rest.now) }
 {
-    let mut failed = false;
-    let mut flat = false;
-    let mut pos = false;
-    let mut neg = false;
-    let mut area: f32 = 0.0;
-    let mut i: usize = 0;
-    let mut k = wrapped(2, n);
-    let second = wrapped(1, n);
-    let mut a = pts[0];
-    let mut b = pts[second];
-    while i < n {
-        let c = pts[k];
-        let x = cross2(a, b, c);
-        failed = failed | corner_failed(a);
-        flat = flat | flat_turn(a, b, c);
-        pos = pos | (x > 0.0);
-        neg = neg | (x < 0.0);
-        area = area + area_term(a, b);
+    corner_fault(first)?;
+    corner_fault(second)?;
+    let mut r = Round {
+        flat: false,
+        pos: false,
+        neg: false,
+        area: 0.0,
+    };
+    let mut a = first;
+    let mut b = second;
+    for c in rest {
+        corner_fault(*c)?;
+        r = r.with_turn(a, b, *c);
         a = b;
-        b = c;
-        k = wrapped(k + 1, n);
-        i += 1;
+        b = *c;
     }
-    Round {
-        failed: failed,
-        flat: flat,
-        pos: pos,
-        neg: neg,
-        area: area * 0.5,
-    }
+    let whole = r.with_turn(a, b, first).with_turn(b, first, second);
+    Ok(Round {
+        area: whole.area * 0.5,
+        ..whole
+    })
 }
 
-// The area that n corners enclose, by itself: above 0 where they go counter-clockwise.
-pub fn area(pts: [Point2; 16], n: usize) -> f32
-    ensures { result ≡ polygon_area (take n pts) }
+// The area that corners enclose, by itself: above 0 where they go counter-clockwise.
+#[tactic(auto, using(crate::proofs::Around::no_area))]
+pub fn area(pts: &[Point2]) -> f32
+    ensures { result ≡ polygon_area pts.now }
 {
-    let m = capped(n);
+    let [first, rest @ ..] = pts else {
+        return 0.0;
+    };
     let mut sum: f32 = 0.0;
-    let mut i: usize = 0;
-    while i < m {
-        let j = wrapped(i + 1, m);
-        let a = pts[i];
-        let b = pts[j];
-        sum = sum + area_term(a, b);
-        i += 1;
+    let mut a = *first;
+    for b in rest {
+        sum += area_term(a, *b);
+        a = *b;
     }
-    sum * 0.5
+    (sum + area_term(a, *first)) * 0.5
 }
 
-// 1 for a side that goes north, 2 for one that goes south, 0 for neither.
-fn north_sign(a: Point2, b: Point2) -> u8
+// None for a side that goes neither north nor south.
+fn north_sign(a: Point2, b: Point2) -> Option<Heading>
     ensures { result ≡ north_sign (a, b) }
 {
     if a.n < b.n {
-        return 1;
+        return Some(Heading::North);
     }
-    if b.n < a.n { 2 } else { 0 }
+    if b.n < a.n {
+        Some(Heading::South)
+    } else {
+        None
+    }
 }
 
-fn differ(a: u8, b: u8) -> usize
+fn differ(a: Heading, b: Heading) -> usize
     ensures { result ≡ differ a b }
 {
-    if a == b { 0 } else { 1 }
+    usize::from(a != b)
 }
 
-// One more side with the sign g; 0 is skipped.
-fn joined(s: Signs, g: u8) -> Signs
-    requires { s.count ≤ 16 }
-    ensures { result ≡ join_if s g }
+// One more side.
+fn joined(seen: Option<Headings>, g: Option<Heading>) -> Option<Headings>
+    requires { ForSome seen (λ s. s.changes + 1 < 2 ^ 64) }
+    ensures { result ≡ join seen g }
 {
-    if g == 0 {
-        return s;
-    }
-    if s.started {
-        let d = differ(s.last, g);
-        return Signs {
-            started: true,
+    match (seen, g) {
+        (_, None) => seen,
+        (None, Some(g)) => Some(Headings {
+            first: g,
+            last: g,
+            changes: 0,
+        }),
+        (Some(s), Some(g)) => Some(Headings {
             first: s.first,
             last: g,
-            count: s.count + d,
-        };
-    }
-    Signs {
-        started: true,
-        first: g,
-        last: g,
-        count: 0,
+            changes: s.changes + differ(s.last, g),
+        }),
     }
 }
 
-// How often the sign of the north step changes, going round the sides.
-fn sign_changes(pts: [Point2; 16], n: usize) -> usize
-    requires { n ≤ 16 }
-    ensures { result ≡ sign_changes (take n pts) }
+// How often the heading changes, going round the sides.
+#[tactic(auto, using(crate::proofs::Around::no_changes))]
+fn sign_changes(pts: &[Point2]) -> usize
+    ensures { result ≡ sign_changes pts.now }
 {
-    let mut s = Signs {
-        started: false,
-        first: 0,
-        last: 0,
-        count: 0,
+    let [first, rest @ ..] = pts else {
+        return 0;
     };
-    let mut i: usize = 0;
-    while i < n {
-        let j = wrapped(i + 1, n);
-        let a = pts[i];
-        let b = pts[j];
-        s = joined(s, north_sign(a, b));
-        i += 1;
+    let mut seen = None;
+    let mut a = *first;
+    for b in rest {
+        seen = joined(seen, north_sign(a, *b));
+        a = *b;
     }
-    if s.started {
-        s.count + differ(s.last, s.first)
-    } else {
-        0
+    match joined(seen, north_sign(a, *first)) {
+        None => 0,
+        Some(s) => s.changes + differ(s.last, s.first),
     }
 }
 
-// Whether the corners go round more than once, where that is asked.
-fn not_once_round(pts: [Point2; 16], n: usize, once_round: bool) -> bool
-    requires { n ≤ 16 }
-    ensures { result ≡ (once_round && ltb 2 (sign_changes (take n pts))) }
+// The area of accepted corners, or their first error; `once_round` asks the rule of kind 8 too.
+pub fn judge(pts: &[Point2], once_round: bool) -> Result<f32, FenceError>
+    ensures { result ≡ judged once_round pts.now }
 {
-    if once_round {
-        sign_changes(pts, n) > 2
-    } else {
-        false
-    }
-}
-
-// The first error of n corners, of which the array has the first m.
-fn polygon_fault(
-    pts: [Point2; 16],
-    n: usize,
-    m: usize,
-    once_round: bool,
-    r: Round,
-) -> Result<(), FenceError>
-    requires { (m ≤ 16) × (r ≡ round_of (take m pts)) }
-    ensures { result ≡ polygon_fault once_round n (take m pts) }
-{
-    let duplicate = has_duplicate(pts, m);
-    let size = float32::fabsf(r.area);
-    let again = not_once_round(pts, m, once_round);
-    if n < 3 {
+    fault_if(pts.len() < 3, FenceError::TooFewVertices)?;
+    fault_if(pts.len() > 16, FenceError::TooManyVertices)?;
+    let [first, second, rest @ ..] = pts else {
         return Err(FenceError::TooFewVertices);
-    }
-    if n > 16 {
-        return Err(FenceError::TooManyVertices);
-    }
-    if r.failed {
-        return corners_fault(pts, m);
-    }
-    if duplicate {
-        return Err(FenceError::DuplicateVertex);
-    }
-    if r.flat {
-        return Err(FenceError::CollinearEdge);
-    }
-    if r.pos & r.neg {
-        return Err(FenceError::NotConvex);
-    }
-    if again {
-        return Err(FenceError::NotOnceRound);
-    }
-    fault_if(size < 100.0, FenceError::AreaTooSmall)
-}
-
-// The first error of n corners, and their area. `n` is the count as sent, and may be above the array's; `once_round` asks the rule of kind 8 too.
-pub fn judge(pts: [Point2; 16], n: usize, once_round: bool) -> Judged
-    ensures { result ≡ judged once_round n (take n pts) }
-{
-    let m = capped(n);
-    let r = go_round(pts, m);
-    let area = r.area;
-    let result = polygon_fault(pts, n, m, once_round, r);
-    Judged {
-        result: result,
-        area: area,
-    }
+    };
+    let round = go_round(*first, *second, rest)?;
+    fault_if(has_duplicate(pts), FenceError::DuplicateVertex)?;
+    fault_if(round.flat, FenceError::CollinearEdge)?;
+    fault_if(round.pos & round.neg, FenceError::NotConvex)?;
+    fault_if(
+        once_round && sign_changes(pts) > 2,
+        FenceError::NotOnceRound,
+    )?;
+    fault_if(float32::fabsf(round.area) < 100.0, FenceError::AreaTooSmall)?;
+    Ok(round.area)
 }

@@ -37,6 +37,7 @@ fn read_behind<R: Read>(reader: &mut R, input: &mut [u8], have: usize) -> usize
 
 // Nothing was left to answer: moves the rest to the front and reads behind it. At the end of the input that is answered, and the
 // program ends.
+#[tactic(auto, using(decided::proofs::Rest::behind, decided::proofs::Moved::moved_length))]
 fn read_on<P: Print, R: Read>(
     rt: &P,
     reader: &mut R,
@@ -66,6 +67,7 @@ fn read_on<P: Print, R: Read>(
 
 // A turn: answers what it can of the bytes that were read and writes the answers out; where nothing was left to answer, it reads.
 // After a refusal or a failed write the program ends.
+#[tactic(auto, using(decided::proofs::Rest::lent, decided::proofs::Rest::turned_read))]
 fn turn<P: Print, R: Read>(
     rt: &P,
     reader: &mut R,

@@ -1,4 +1,7 @@
 -- What `answer_front` has after its call, from the contract of the function that it called. Assumes nothing.
+use Rattle.flight.specs.declared.FlightError.{FlightError}
+use Rattle.wire.specs.declared.FrameError.{FrameError}
+use Rattle.std.specs.Prelude.{Result, Ok, Err}
 use Prim.Native.Nat.{ℕ, zero, suc, ◌≤◌, ◌<◌}
 use native.Mathlib.Omega.{arith}
 use mathlib.Core.Bool.{Bool, true, false, cond}
@@ -9,17 +12,15 @@ use lib.ListN.{length, take}
 use borrow.Author.Tests.{eqb-false, le-ltb}
 use Rattle.config.specs.declared.Config.{Config}
 use Rattle.wire.specs.Frame.{whole_frame, frame_written}
-use Rattle.frame_config.specs.declared.ConfigRead.{ConfigRead}
 use Rattle.frame_config.specs.ConfigFrame.{read_config}
 use Rattle.frame_fence.specs.FenceFrame.{read_fence}
 use Rattle.flight.specs.declared.Flight.{Flight}
-use Rattle.flight.specs.Flight.{accept_flight}
+use Rattle.flight.specs.Flight.{after_fence}
 use Rattle.stream.specs.declared.Due.{Due}
 use Rattle.stream.specs.declared.Session.{Session}
 use Rattle.stream.specs.declared.FramesAnswer.{FramesAnswer}
-use Rattle.stream.specs.declared.SetUp.{SetUp}
-use Rattle.stream.specs.Stream.{Reply, put_count, silent, refusal, flying, with_config, after_config, answer_config, answer_fence, in_setup, in_flight, setup_frame, by_due, answer_setup, reply_setup, set_up, fly_frames, frames_answer}
-use Rattle.decided.specs.declared.Turn.{Turn}
+use Rattle.stream.specs.Stream.{Reply, put_count, silent, refusal, with_config, after_config, after_flight, answer_config, answer_fence, in_setup, in_flight, setup_frame, by_due, answer_setup, reply_setup, set_up, fly_frames, frames_answer}
+use Rattle.stream.specs.declared.Turn.{Turn}
 use Rattle.decided.specs.Decided.{Answer, no_areas, answer_due, answer}
 use Rattle.decided.specs.Program.{state, one_frame, turn}
 use Rattle.decided.proofs.Whole.{positive, frame_within}
@@ -53,21 +54,18 @@ config_areas : (frame : List ℕ) → (answer_config frame).after.areas ≡ 0
 unfolding answer_config refusal with_config
 config_areas frame = at (read_config frame)
   where
-    at : (r : ConfigRead) → (after_config r).after.areas ≡ 0
-    at (ConfigRead.Refused n) = refl
-    at (ConfigRead.Frame cfg) = refl
+    at : (r : Result Config FrameError) → (after_config r).after.areas ≡ 0
+    at (Err d) = refl
+    at (Ok cfg) = refl
 
 fence_areas : (cfg : Config) (frame : List ℕ) → (answer_fence cfg frame).after.areas ≡ 0
 unfolding answer_fence refusal
 fence_areas cfg frame =
-    let read = read_fence frame in
-    let f = accept_flight cfg read in
-    at f f.refused read.refused (eqb read.refused 0) (eqb f.refused 0)
+    at (after_fence cfg (read_fence frame))
   where
-    at : (f : Flight) (n m : ℕ) (a b : Bool) → (cond a (cond b (silent (flying f)) (refusal n)) (refusal m)).after.areas ≡ 0
-    at f n m true true = refl
-    at f n m true false = refl
-    at f n m false b = refl
+    at : (r : Result Flight FlightError) → (after_flight r).after.areas ≡ 0
+    at (Ok f) = refl
+    at (Err e) = refl
 
 -- the same answer, read as a session and as a state
 abbrev Same : Reply → Answer → List ℕ → Type 0
@@ -102,11 +100,11 @@ setup_within due input = by (in_setup due)
     by true = frame (whole_frame input) refl
     by false = omega arith
 
-pub stood : (session : Session) (input out held after : List ℕ) (a : SetUp)
+pub stood : (session : Session) (input out held after : List ℕ) (a : Turn)
     → in_flight session.due ≡ false
     → a ≡ set_up session input out
     → after ≡ frame_written (reply_setup session input).bytes out
-    → Fronted session input out held after held (record { session = a.session; taken = a.taken; put = a.put })
+    → Fronted session input out held after held a
 unfolding turn one_frame
 stood session input out held after a d e w =
     let same = same_reply session held input in

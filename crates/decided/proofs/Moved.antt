@@ -19,22 +19,21 @@ take_back (suc end) [] = refl
 take_back (suc end) (x ∷ s) = ap (λ (r : List ℕ). x ∷ r) (take_back end s)
 
 -- none, where the place is not before the end
-pub moved_none : (from end n : ℕ) (s : List ℕ) → n ≡ min end (length s) → n ≤ from → (0 ≡ length (slice from end s)) × (s ≡ moved_front from end s)
+pub moved_none : (from end n : ℕ) (s : List ℕ) → n ≡ min end (length s) → n ≤ from → s ≡ moved_front from end s
 unfolding moved_front
 moved_none from end n s e h =
     let none : slice from end s ≡ [] = drop_of_length-le (take end s) {i = from} (simp length-take (omega arith)) in
-    rw none (refl, refl)
+    rw none refl
 
 -- those that stand behind the place, up to the end of the slice
-pub moved : (from end n : ℕ) (s : List ℕ) → n ≡ min end (length s) → from < n
-    → (n - from ≡ length (slice from end s)) × (paste s 0 (drop from s) (n - from) ≡ moved_front from end s)
+pub moved : (from end n : ℕ) (s after : List ℕ) → n ≡ min end (length s) → from < n → after ≡ paste s 0 (drop from s) (n - from) → after ≡ moved_front from end s
 unfolding moved_front
-moved from end n s e h =
+moved from end n s after e h a =
     let count : n - from ≡ length (slice from end s) = ap (λ (k : ℕ). k - from) e ∙ sym (slice_length from end s) in
     let there : take (n - from) (drop from s) ≡ slice from end s =
     lent from n s (omega arith) (omega (arith, min-le_right end (length s))) ∙ ap (λ (k : ℕ). drop from (take k s)) (e ∙ sym (length-take end s)) ∙ ap (drop from) (take_back end s) in
     let at : 0 + (n - from) ≡ n - from = omega arith in
-    (count, rw at (λ i. there i ++ drop (count i) s))
+    rw (a, at) (λ i. there i ++ drop (count i) s)
 
 pub moved_length : (from end : ℕ) (s : List ℕ) → length (moved_front from end s) ≡ length s
 unfolding moved_front

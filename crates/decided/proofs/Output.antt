@@ -1,4 +1,8 @@
 -- What the output looks like: frames of kind 4, and at most one of kind 255, at its end. Assumes nothing.
+use Rattle.flight.specs.declared.FlightError.{FlightError}
+use Rattle.types.specs.declared.Telemetry.{Telemetry}
+use Rattle.wire.specs.declared.FrameError.{FrameError}
+use Rattle.std.specs.Prelude.{Result, Ok, Err}
 use Prim.Native.Nat.{ℕ, zero, suc, ◌<◌}
 use native.Mathlib.Omega.{arith}
 use mathlib.Core.Bool.{Bool, true, false, ◌||◌, cond}
@@ -9,18 +13,16 @@ use lib.ListN.{length, take, drop}
 use borrow.Author.Tests.{ne_eqb}
 use Rattle.config.specs.declared.Config.{Config}
 use Rattle.supervisor.specs.declared.Supervisor.{Supervisor}
-use Rattle.wire.specs.Frame.{whole_frame}
-use Rattle.frame_config.specs.declared.ConfigRead.{ConfigRead}
+use Rattle.wire.specs.Frame.{whole_frame, frame_error_number}
 use Rattle.frame_config.specs.ConfigFrame.{read_config}
 use Rattle.frame_fence.specs.FenceFrame.{read_fence}
 use Rattle.frame_areas.specs.AreasFrame.{areas_fault}
-use Rattle.frame_telemetry.specs.declared.TelemetryRead.{TelemetryRead}
 use Rattle.frame_telemetry.specs.TelemetryFrame.{read_telemetry}
 use Rattle.frame_refusal.specs.RefusalFrame.{refusal_frame}
 use Rattle.flight.specs.declared.Flight.{Flight}
-use Rattle.flight.specs.Flight.{accept_flight, step_flight}
+use Rattle.flight.specs.Flight.{step_flight, flight_error_number, after_fence}
 use Rattle.stream.specs.declared.Due.{Due}
-use Rattle.stream.specs.Stream.{Flown, silent, refusal, flying, after_config, begin, in_setup, in_flight, answer_config, answer_fence, after_telemetry, after_areas, takes_areas, answer_frame, end_bytes}
+use Rattle.stream.specs.Stream.{Flown, refusal, after_config, after_flight, begin, in_setup, in_flight, answer_config, answer_fence, after_telemetry, after_areas, takes_areas, answer_frame, end_bytes}
 use Rattle.decided.specs.Decided.{State, Output, ended, refused, stepped, begun, answer_due, answer, front_frame, written_in, written_from, decided}
 use Rattle.decided.proofs.Whole.{turn_end, written_end}
 
@@ -38,28 +40,23 @@ unfolding written_from
 nothing_more s input e = nothing_in (length input) s input e
 
 -- an answer, and what is written behind it: nothing, where nothing is due after it
-config_output : (r : ConfigRead) (more : List ℕ) → ((after_config r).after.due ≡ Due.Nothing → more ≡ []) → Output more → Output ((after_config r).bytes ++ more)
+config_output : (r : Result Config FrameError) (more : List ℕ) → ((after_config r).after.due ≡ Due.Nothing → more ≡ []) → Output more → Output ((after_config r).bytes ++ more)
 unfolding refusal
-config_output (ConfigRead.Refused n) more h o = rw (h refl, append-nil) (refused n)
-config_output (ConfigRead.Frame cfg) more h o = o
+config_output (Err d) more h o = rw (h refl, append-nil) (refused (frame_error_number d))
+config_output (Ok cfg) more h o = o
 
 fence_output : (cfg : Config) (frame more : List ℕ) → ((answer_fence cfg frame).after.due ≡ Due.Nothing → more ≡ []) → Output more → Output ((answer_fence cfg frame).bytes ++ more)
 unfolding answer_fence refusal
 fence_output cfg frame more h o =
-    let read = read_fence frame in
-    let f = accept_flight cfg read in
-    at f f.refused read.refused (eqb read.refused 0) (eqb f.refused 0) h
+    at (after_fence cfg (read_fence frame)) h
   where
-    at : (f : Flight) (n m : ℕ) (a b : Bool)
-        → ((cond a (cond b (silent (flying f)) (refusal n)) (refusal m)).after.due ≡ Due.Nothing → more ≡ [])
-        → Output ((cond a (cond b (silent (flying f)) (refusal n)) (refusal m)).bytes ++ more)
-    at f n m true true h = o
-    at f n m true false h = rw (h refl, append-nil) (refused n)
-    at f n m false b h = rw (h refl, append-nil) (refused m)
+    at : (r : Result Flight FlightError) → ((after_flight r).after.due ≡ Due.Nothing → more ≡ []) → Output ((after_flight r).bytes ++ more)
+    at (Ok f) h = o
+    at (Err e) h = rw (h refl, append-nil) (refused (flight_error_number e))
 
-telemetry_output : (r : TelemetryRead) (f : Flight) (s : Supervisor) (areas more : List ℕ) → ((after_telemetry r f s areas).due ≡ Due.Nothing → more ≡ []) → Output more → Output ((after_telemetry r f s areas).bytes ++ more)
-telemetry_output (TelemetryRead.Refused n) f s areas more h o = rw (h refl, append-nil) (refused n)
-telemetry_output (TelemetryRead.Frame t) f s areas more h o = stepped (step_flight f areas s t).decision o
+telemetry_output : (r : Result Telemetry FrameError) (f : Flight) (s : Supervisor) (areas more : List ℕ) → ((after_telemetry r f s areas).due ≡ Due.Nothing → more ≡ []) → Output more → Output ((after_telemetry r f s areas).bytes ++ more)
+telemetry_output (Err d) f s areas more h o = rw (h refl, append-nil) (refused (frame_error_number d))
+telemetry_output (Ok t) f s areas more h o = stepped (step_flight f areas s t).decision o
 
 areas_output : (s : Supervisor) (areas frame more : List ℕ) → ((after_areas s areas frame).due ≡ Due.Nothing → more ≡ []) → Output more → Output ((after_areas s areas frame).bytes ++ more)
 unfolding after_areas

@@ -1,5 +1,10 @@
 -- What the functions put into the output block, by their contracts, is what a turn and the end write: the first `put` bytes of the block afterwards, where it has room for
 -- an answer. And what is left after a turn that takes nothing is shorter than a frame, so that the input block always has room for more. Assumes nothing.
+use Rattle.flight.specs.declared.FlightError.{FlightError}
+use Rattle.types.specs.declared.Telemetry.{Telemetry}
+use Rattle.wire.proofs.Head.{room}
+use Rattle.wire.specs.declared.FrameError.{FrameError}
+use Rattle.std.specs.Prelude.{Result, Ok, Err}
 use Prim.Native.Nat.{ℕ, zero, suc, ◌+◌, ◌-◌, ◌≤◌, ◌<◌, zero-le}
 use native.Mathlib.Omega.{arith}
 use mathlib.Core.Bool.{Bool, true, false, ◌||◌, cond}
@@ -12,21 +17,19 @@ use borrow.Author.Tests.{eqb-false, ltb-true, ltb-false, le-ltb}
 use Rattle.config.specs.declared.Config.{Config}
 use Rattle.supervisor.specs.declared.Supervisor.{Supervisor}
 use Rattle.wire.specs.Fields.{Bytes, u16_at}
-use Rattle.wire.specs.Frame.{whole_frame, frame_written}
+use Rattle.wire.specs.Frame.{whole_frame, frame_written, frame_error_number}
 use Rattle.wire.proofs.Number.{number_lt}
-use Rattle.frame_config.specs.declared.ConfigRead.{ConfigRead}
 use Rattle.frame_config.specs.ConfigFrame.{read_config}
 use Rattle.frame_fence.specs.FenceFrame.{read_fence}
 use Rattle.frame_areas.specs.AreasFrame.{areas_fault}
-use Rattle.frame_telemetry.specs.declared.TelemetryRead.{TelemetryRead}
 use Rattle.frame_telemetry.specs.TelemetryFrame.{read_telemetry}
 use Rattle.frame_decision.proofs.Size.{size as decision_size}
 use Rattle.frame_refusal.specs.RefusalFrame.{refusal_frame}
 use Rattle.frame_refusal.proofs.Size.{size as refusal_size}
 use Rattle.flight.specs.declared.Flight.{Flight}
-use Rattle.flight.specs.Flight.{accept_flight, step_flight}
+use Rattle.flight.specs.Flight.{step_flight, flight_error_number, after_fence}
 use Rattle.stream.specs.declared.Due.{Due}
-use Rattle.stream.specs.Stream.{Progress, Flown, put_count, silent, refusal, flying, after_config, answer_config, answer_fence, in_setup, in_flight, setup_frame, takes_areas, after_areas, after_telemetry, answer_frame, nothing_taken, next_frame, next_of, answer_next, answer_frames, fly_frames, end_bytes}
+use Rattle.stream.specs.Stream.{Progress, Flown, put_count, refusal, after_config, after_flight, answer_config, answer_fence, in_setup, in_flight, setup_frame, takes_areas, after_areas, after_telemetry, answer_frame, nothing_taken, next_frame, next_of, answer_next, answer_frames, fly_frames, end_bytes}
 use Rattle.decided.specs.Decided.{State, Answer, answer_due, answer, front_frame}
 use Rattle.decided.specs.Program.{one_frame, flown, turn}
 use Rattle.decided.proofs.Whole.{positive}
@@ -38,25 +41,22 @@ config_size : (frame : List ℕ) → length (answer_config frame).bytes ≤ 95
 unfolding answer_config refusal
 config_size frame = at (read_config frame)
   where
-    at : (r : ConfigRead) → length (after_config r).bytes ≤ 95
-    at (ConfigRead.Refused n) = omega (arith, refusal_size n)
-    at (ConfigRead.Frame cfg) = zero-le
+    at : (r : Result Config FrameError) → length (after_config r).bytes ≤ 95
+    at (Err d) = omega (arith, refusal_size (frame_error_number d))
+    at (Ok cfg) = zero-le
 
 fence_size : (cfg : Config) (frame : List ℕ) → length (answer_fence cfg frame).bytes ≤ 95
 unfolding answer_fence refusal
 fence_size cfg frame =
-    let read = read_fence frame in
-    let f = accept_flight cfg read in
-    at f f.refused read.refused (eqb read.refused 0) (eqb f.refused 0)
+    at (after_fence cfg (read_fence frame))
   where
-    at : (f : Flight) (n m : ℕ) (a b : Bool) → length (cond a (cond b (silent (flying f)) (refusal n)) (refusal m)).bytes ≤ 95
-    at f n m true true = zero-le
-    at f n m true false = omega (arith, refusal_size n)
-    at f n m false b = omega (arith, refusal_size m)
+    at : (r : Result Flight FlightError) → length (after_flight r).bytes ≤ 95
+    at (Ok f) = zero-le
+    at (Err e) = omega (arith, refusal_size (flight_error_number e))
 
-telemetry_size_lem : (read : TelemetryRead) (f : Flight) (s : Supervisor) (areas : List ℕ) → length (after_telemetry read f s areas).bytes ≤ 95
-telemetry_size_lem (TelemetryRead.Refused n) f s areas = omega (arith, refusal_size n)
-telemetry_size_lem (TelemetryRead.Frame t) f s areas = omega (arith, decision_size (step_flight f areas s t).decision)
+telemetry_size_lem : (read : Result Telemetry FrameError) (f : Flight) (s : Supervisor) (areas : List ℕ) → length (after_telemetry read f s areas).bytes ≤ 95
+telemetry_size_lem (Err d) f s areas = omega (arith, refusal_size (frame_error_number d))
+telemetry_size_lem (Ok t) f s areas = omega (arith, decision_size (step_flight f areas s t).decision)
 
 areas_size : (s : Supervisor) (areas frame : List ℕ) → length (after_areas s areas frame).bytes ≤ 95
 unfolding after_areas

@@ -1,5 +1,6 @@
 -- A turn of the program: what is written for all of the input is what the turn writes and what is written for the rest; and a turn that takes nothing leaves
 -- nothing to answer. Assumes nothing.
+use Rattle.wire.proofs.Head.{room}
 use Prim.Native.Nat.{ℕ, zero, suc, ◌+◌, ◌-◌, ◌≤◌, ◌<◌}
 use native.Mathlib.Omega.{arith}
 use mathlib.Core.Bool.{Bool, true, false, ◌||◌, cond}

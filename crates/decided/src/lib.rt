@@ -9,7 +9,7 @@ ghost use Rattle.wire.specs.Frame.{frame_written};
 ghost use Rattle.stream.specs.Stream.{put_count};
 ghost use Rattle.decided.specs.Program.{state, turn, moved_front};
 
-use stream::Session;
+use stream::{Session, Turn};
 
 // What is kept between two turns: the session, the place in the input block of the bytes that were read and not yet answered, and
 // whether to go on.
@@ -19,14 +19,6 @@ pub struct Kept {
     pub from: usize,
     pub have: usize,
     pub more: bool,
-}
-
-// The session after a turn, how many bytes of the input were answered, and how many bytes were put.
-#[derive(Clone, Copy)]
-pub struct Turn {
-    pub session: Session,
-    pub taken: usize,
-    pub put: usize,
 }
 
 // Answers frames from the front of the input: one where a kind 1 or 2 is due, and where a kind 3 is, as many as out has room for. The
@@ -39,15 +31,7 @@ pub fn answer_front(session: &Session, input: &[u8], out: &mut [u8], held: &mut 
     ensures taken_in_bounds { result.taken ≤ length input.now }
 {
     if session.due.in_flight() {
-        let p = stream::fly_frames(
-            &session.flight,
-            session.due,
-            &session.supervisor,
-            session.areas,
-            input,
-            out,
-            held,
-        );
+        let p = stream::fly_frames(session, input, out, held);
         return Turn {
             session: Session {
                 due: p.due,
@@ -59,20 +43,16 @@ pub fn answer_front(session: &Session, input: &[u8], out: &mut [u8], held: &mut 
             put: p.put,
         };
     }
-    let a = stream::set_up(session, input, out);
-    Turn {
-        session: a.session,
-        taken: a.taken,
-        put: a.put,
-    }
+    stream::set_up(session, input, out)
 }
 
 // Moves the bytes from `from` up to `end` to the front, and says how many they are.
+#[tactic(auto, using(crate::proofs::Moved::moved, crate::proofs::Moved::moved_none))]
 pub fn move_front(input: &mut [u8], from: usize, end: usize) -> usize
     ensures value { result ≡ length (slice from end input.old) }
     ensures input_after { input.new ≡ moved_front from end input.old }
 {
-    let stop = wire::smaller(end, input.len());
+    let stop = end.min(input.len());
     if stop <= from {
         return 0;
     }

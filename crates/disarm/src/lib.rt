@@ -1,44 +1,26 @@
-// The Rust's disarm.rs: when the motors may be stopped. The gate goes in by value and comes back; its lent form stands last.
+// The Rust's disarm.rs: when the motors may be stopped. The caller lends its gate.
 #![tactic(auto, unfolding(crate::specs::Disarm::gate_open, crate::specs::Disarm::hold_from, crate::specs::Disarm::evaluate))]
 
 ghost use Rattle.std.specs.Prelude.{◌≡◌};
 ghost use Rattle.time.specs.Time.{wrapping};
-ghost use Rattle.disarm.specs.Disarm.{closed, is_land, on_ground, gate_open, hold_from, evaluate};
+ghost use Rattle.disarm.specs.Disarm.{closed, gate_open, evaluate};
 
 use types::{Action, LandedState, Stamped};
 
-#[derive(Clone, Copy)]
+#[derive(Clone, Copy, Default)]
 pub struct DisarmGate {
     pub hold_since_ms: Option<u32>,
 }
 
+// A gate after `evaluate`, and the answer.
 #[derive(Clone, Copy)]
 pub struct Evaluated {
     pub gate: DisarmGate,
     pub eligible: bool,
 }
 
-pub fn reset_gate() -> DisarmGate
-    ensures { result ≡ closed }
-{
-    DisarmGate {
-        hold_since_ms: None,
-    }
-}
-
-fn is_land(a: Action) -> bool
-    ensures { result ≡ is_land a }
-{
-    a == Action::Land
-}
-
-fn on_ground(landed: Option<LandedState>) -> bool
-    ensures { result ≡ on_ground landed }
-{
-    landed == Some(LandedState::OnGround)
-}
-
-// Land is requested, and the aircraft is armed and on the ground by fresh readings.
+// Land is requested, and the aircraft is armed and on the ground by fresh readings. Here and below what is read is
+// handed over one by one: a struct for it would be filled at one call alone.
 fn gate_open(
     now_ms: u32,
     armed: Option<Stamped<bool>>,
@@ -48,55 +30,19 @@ fn gate_open(
 ) -> bool
     ensures { result ≡ gate_open wrapping now_ms armed landed status_fresh_ms requested }
 {
-    is_land(requested)
+    (requested == Action::Land)
         & validate::fresh_true(now_ms, armed, status_fresh_ms)
-        & on_ground(validate::fresh_landed(now_ms, landed, status_fresh_ms))
+        & (validate::fresh_landed(now_ms, landed, status_fresh_ms) == Some(LandedState::OnGround))
 }
 
-fn hold_from(since: Option<u32>, now_ms: u32, hold_ms: u32) -> Evaluated
-    ensures { result ≡ hold_from wrapping since now_ms hold_ms }
-{
-    let since = since.unwrap_or(now_ms);
-    Evaluated {
-        gate: DisarmGate {
-            hold_since_ms: Some(since),
-        },
-        eligible: time::hold_met(now_ms, since, hold_ms),
-    }
-}
-
-// The gate is judged by the requested action before latches.
-pub fn evaluate_gate(
-    gate: DisarmGate,
-    now_ms: u32,
-    armed: Option<Stamped<bool>>,
-    landed: Option<Stamped<LandedState>>,
-    status_fresh_ms: u32,
-    disarm_hold_ms: u32,
-    requested: Action,
-    clock_fault: bool,
-) -> Evaluated
-    ensures { result ≡ evaluate wrapping gate now_ms armed landed status_fresh_ms disarm_hold_ms requested clock_fault }
-{
-    let open = gate_open(now_ms, armed, landed, status_fresh_ms, requested);
-    if open & !clock_fault {
-        hold_from(gate.hold_since_ms, now_ms, disarm_hold_ms)
-    } else {
-        Evaluated {
-            gate: reset_gate(),
-            eligible: false,
-        }
-    }
-}
-
-// The lent form: the caller's gate is changed by reference, with the answers of the by-value functions.
 impl DisarmGate {
     pub fn reset(&mut self)
         ensures { self.new ≡ closed }
     {
-        *self = reset_gate();
+        *self = Self::default();
     }
 
+    // The gate is judged by the requested action before latches.
     pub fn evaluate(
         &mut self,
         now_ms: u32,
@@ -110,33 +56,27 @@ impl DisarmGate {
         ensures value { result ≡ (evaluate wrapping self.old now_ms armed landed status_fresh_ms disarm_hold_ms requested clock_fault).eligible }
         ensures self_after { self.new ≡ (evaluate wrapping self.old now_ms armed landed status_fresh_ms disarm_hold_ms requested clock_fault).gate }
     {
-        let a = evaluate_gate(
-            *self,
-            now_ms,
-            armed,
-            landed,
-            status_fresh_ms,
-            disarm_hold_ms,
-            requested,
-            clock_fault,
-        );
-        *self = a.gate;
-        a.eligible
+        if clock_fault | !gate_open(now_ms, armed, landed, status_fresh_ms, requested) {
+            self.reset();
+            return false;
+        }
+        let since = self.hold_since_ms.unwrap_or(now_ms);
+        self.hold_since_ms = Some(since);
+        time::hold_met(now_ms, since, disarm_hold_ms)
     }
 }
 
 // A gate is lent to `reset` and comes back as it was left.
-pub fn reset_lent(gate: DisarmGate) -> DisarmGate
+pub fn reset_lent(mut gate: DisarmGate) -> DisarmGate
     ensures as_left { result ≡ closed }
 {
-    let mut g = gate;
-    g.reset();
-    g
+    gate.reset();
+    gate
 }
 
 // A gate is lent to `evaluate` and comes back as it was left, with the answer.
 pub fn evaluate_lent(
-    gate: DisarmGate,
+    mut gate: DisarmGate,
     now_ms: u32,
     armed: Option<Stamped<bool>>,
     landed: Option<Stamped<LandedState>>,
@@ -147,8 +87,7 @@ pub fn evaluate_lent(
 ) -> Evaluated
     ensures { result ≡ evaluate wrapping gate now_ms armed landed status_fresh_ms disarm_hold_ms requested clock_fault }
 {
-    let mut g = gate;
-    let eligible = g.evaluate(
+    let eligible = gate.evaluate(
         now_ms,
         armed,
         landed,
@@ -157,5 +96,5 @@ pub fn evaluate_lent(
         requested,
         clock_fault,
     );
-    Evaluated { gate: g, eligible }
+    Evaluated { gate, eligible }
 }

@@ -1,8 +1,8 @@
 -- An add from slice to slice. Assumes nothing.
 use Prim.Native.Nat.{ℕ, ◌+◌, ◌-◌, ◌≤◌, ◌<◌, min}
 use native.Mathlib.Omega.{arith}
-use mathlib.Core.Path.{◌≡◌, sym, ap, ◌∙◌}
-use mathlib.Core.Bool.{Bool, false, ◌||◌}
+use mathlib.Core.Path.{◌≡◌, refl, sym, ap, ◌∙◌}
+use mathlib.Core.Bool.{Bool, false, false≢true, ◌||◌}
 use mathlib.Core.List.{List, ◌∷◌, ◌++◌}
 use lib.Dec.{eqb}
 use lib.ListN.{length, take, drop, length-append, length-drop}
@@ -14,14 +14,19 @@ use Rattle.areas.proofs.Lists.{or_false, place_length}
 use Rattle.areas.proofs.Good.{clear}
 use Rattle.frame_areas.specs.AreaFrame.{Sent, area_rules, body_of, area_of, body_size, area_frame_fault, area_in}
 use Rattle.frame_areas.specs.AreasFrame.{held_in, areas_fault, bodies_of, areas_frame}
-use Rattle.frame_areas.proofs.Bodies.{byte_behind}
-use Rattle.frame_areas.proofs.Frames.{Accepted, body_back, area_body, area_sent, accepted, accepted_place, accepted_small}
-use Rattle.edit_areas.specs.declared.Place.{Place}
+use Rattle.frame_areas.proofs.Frames.{Accepted, area_body, area_sent, accepted, accepted_place, accepted_small}
+use Rattle.std.specs.Prelude.{Result, Ok, Err}
+use Rattle.std.specs.Result.{is_ok, IsErr}
+use Rattle.frame_areas.proofs.Walk.{first_some, byte_behind, body_back, rest}
 use Rattle.edit_areas.specs.Edit.{add_call}
-use Rattle.edit_areas.specs.Cut.{below, onward, place_of, framed}
-use Rattle.edit_areas.proofs.Answers.{first_zero, first_some, first_three, code_answer, declined, allowed}
-use Rattle.edit_areas.proofs.Cuts.{placed, found, bodies_append}
-use Rattle.edit_areas.proofs.Parts.{rest, framed_areas, held_count, at_is, at_within, front_part, back_part}
+use Rattle.edit_areas.specs.Cut.{below, onward, cut_at, place_of, framed}
+use Rattle.edit_areas.proofs.Answers.{code_answer, declined, allowed}
+use Rattle.edit_areas.proofs.Cuts.{placed, found, bodies_append, place_ok}
+use Rattle.edit_areas.proofs.Parts.{framed_areas, held_count, at_is, at_within, front_part, back_part}
+
+err_of : (r : Result ℕ ℕ) → is_ok r ≡ false → IsErr r
+err_of (Ok x) h = absurd (false≢true (sym h))
+err_of (Err e) h = refl
 
 module _ (s area output : List ℕ) where
   abbrev l : List Sent
@@ -33,24 +38,30 @@ module _ (s area output : List ℕ) where
   abbrev pub judged : ℕ
   judged = area_fault area_rules (taken l a.number) (length l) a
 
-  pub add_declined : (f : ℕ) → f ≡ first (areas_fault s) (area_frame_fault area) → (f ≡ 0 → ⊥) → (f ≡ (add_call s area output).number) × (output ≡ (add_call s area output).output)
+  abbrev Answers : ℕ → Type 0
+  Answers f = (f ≡ (add_call s area output).number) × (output ≡ (add_call s area output).output)
+
+  -- the areas held are refused
+  pub areas_declined : (f : ℕ) → f ≡ areas_fault s → 0 < f → Answers f
   unfolding add_call
-  add_declined f e k =
+  areas_declined f e k =
+      let rest = first (area_frame_fault area) (code (add area_rules l a)) in
+      declined (first (areas_fault s) rest) f (kept l (add area_rules l a)) output (e ∙ sym (first_some (areas_fault s) rest (omega (arith, e, k)))) k
+
+  -- or the area's frame
+  pub area_declined : (f : ℕ) → areas_fault s ≡ 0 → f ≡ area_frame_fault area → 0 < f → Answers f
+  unfolding add_call
+  area_declined f h e k =
       let c = code (add area_rules l a) in
       declined (first (areas_fault s) (first (area_frame_fault area) c)) f (kept l (add area_rules l a)) output
-      (e ∙ sym (first_three (areas_fault s) (area_frame_fault area) c ∙ first_some (first (areas_fault s) (area_frame_fault area)) c (λ z. k (e ∙ z)))) k
+      (e ∙ sym (ap (λ (n : ℕ). first n (first (area_frame_fault area) c)) h ∙ first_some (area_frame_fault area) c (omega (arith, e, k)))) k
 
-  module _ (h : first (areas_fault s) (area_frame_fault area) ≡ 0) where
-    pub areas_sound : areas_fault s ≡ 0
-    areas_sound = (first_zero (areas_fault s) (area_frame_fault area) h).0
-
-    pub area_sound : area_frame_fault area ≡ 0
-    area_sound = (first_zero (areas_fault s) (area_frame_fault area) h).1
-
+  module _ (areas_sound : areas_fault s ≡ 0) (area_sound : area_frame_fault area ≡ 0) where
     refusals : first (areas_fault s) (first (area_frame_fault area) (code (add area_rules l a))) ≡ judged
-    refusals = first_three (areas_fault s) (area_frame_fault area) (code (add area_rules l a)) ∙ ap (λ (n : ℕ). first n (code (add area_rules l a))) h ∙ code_answer judged (place a l)
+    refusals = (λ i. first (areas_sound i) (first (area_sound i) (code (add area_rules l a)))) ∙ code_answer judged (place a l)
 
-    pub add_refused : (f : ℕ) → f ≡ judged → (f ≡ 0 → ⊥) → (f ≡ (add_call s area output).number) × (output ≡ (add_call s area output).output)
+    -- or the area
+    pub add_refused : (f : ℕ) → f ≡ judged → 0 < f → Answers f
     unfolding add_call
     add_refused f e k = declined (first (areas_fault s) (first (area_frame_fault area) (code (add area_rules l a)))) f (kept l (add area_rules l a)) output (e ∙ sym refusals) k
 
@@ -58,9 +69,9 @@ module _ (s area output : List ℕ) where
     unfolding area_in
     area_part = rest area 4 ∙ sym (body_back (drop 4 area) (omega (arith, area_body area area_sound)))
 
-    pub area_number : u8_at area 4 ≡ a.number
+    pub number_is : u8_at area 4 ≡ a.number
     unfolding area_in
-    area_number = sym (byte_behind area 4 0)
+    number_is = sym (byte_behind area 4 0)
 
     pub area_long : 4 ≤ length area
     area_long = omega (arith, area_body area area_sound, length-drop 4 area)
@@ -68,19 +79,23 @@ module _ (s area output : List ℕ) where
     pub part_sized : length (take (length area - 4) (drop 4 area)) ≡ body_size (take (length area - 4) (drop 4 area))
     part_sized = rw (rest area 4) (area_body area area_sound)
 
-    -- what the code hands to `body_fault`
-    pub handed : (number wide : ℕ) (p : Place) (wrong : Bool) → number ≡ u8_at area 4 → wide ≡ u8_at s 4 → p ≡ place_of s number → wrong ≡ eqb number 0 || p.held
+    -- what the code hands to `check_body`
+    pub handed : (number wide : ℕ) (p : Result ℕ ℕ) (wrong : Bool) → number ≡ u8_at area 4 → wide ≡ u8_at s 4 → p ≡ place_of s number → wrong ≡ eqb number 0 || is_ok p
         → area_fault area_rules wrong wide (area_of (take (length area - 4) (drop 4 area))) ≡ judged
-    unfolding area_in place_of
+    unfolding area_in
     handed number wide p wrong q w k g =
-        let n : number ≡ a.number = q ∙ area_number in
+        let n : number ≡ a.number = q ∙ number_is in
         let t : wrong ≡ taken l a.number =
-        g ∙ ap (λ (x : Place). eqb number 0 || x.held) k ∙ ap (λ (x : Bool). eqb number 0 || x) (found number l (accepted s areas_sound).good.rising) ∙ ap (taken l) n in
+        g ∙ ap (λ (x : Result ℕ ℕ). eqb number 0 || is_ok x) k ∙ ap (λ (x : Bool). eqb number 0 || x) (place_ok s number ∙ found number l (accepted s areas_sound).good.rising) ∙ ap (taken l) n in
         (λ i. area_fault area_rules (t i) ((w ∙ sym (held_count s areas_sound)) i) (area_of (rest area 4 i)))
 
     module _ (f : judged ≡ 0) where
       then_held : holds a.number l ≡ false
       then_held = (or_false (eqb a.number 0) (holds a.number l) (clear area_rules (taken l a.number) l a f).number).1
+
+      -- so its place is one where it would be
+      pub not_held : IsErr (place_of s a.number)
+      not_held = err_of (place_of s a.number) (place_ok s a.number ∙ found a.number l (accepted s areas_sound).good.rising ∙ then_held)
 
       pub after : Accepted (place a l)
       after = accepted_place l a (accepted s areas_sound) (area_sent area area_sound) f
@@ -105,27 +120,23 @@ module _ (s area output : List ℕ) where
       add_accepted = allowed (first (areas_fault s) (first (area_frame_fault area) (code (add area_rules l a)))) (kept l (add area_rules l a)) (place a l) output (refusals ∙ f) (ap (λ (n : ℕ). kept l (answer n (place a l))) f)
 
       -- what the code cuts out
-      module _ (number count from : ℕ) (p : Place) (q : number ≡ u8_at area 4) (w : count ≡ u8_at s 4) (k : p ≡ place_of s number) (g : from ≡ min (length s) 5) where
-        there : p ≡ place_of s a.number
-        there = k ∙ ap (place_of s) (q ∙ area_number)
-
-        pub cut_within : (from ≤ p.at) × (p.at ≤ length s)
+      module _ (count from at : ℕ) (w : count ≡ u8_at s 4) (g : from ≡ min (length s) 5) (there : at ≡ cut_at s a.number) where
+        pub cut_within : (from ≤ at) × (at ≤ length s)
         cut_within =
-            let e = ap (λ (x : Place). x.at) there in
             let d = at_is s areas_sound a.number in
             let b = at_within s areas_sound a.number in
-            (omega arith, omega arith)
+            (omega (arith, there, d, g), omega (arith, there, b))
 
         abbrev three : List ℕ
-        three = take (p.at - from) (drop from s) ++ (take (length area - 4) (drop 4 area) ++ take (length s - p.at) (drop p.at s))
+        three = take (at - from) (drop from s) ++ (take (length area - 4) (drop 4 area) ++ take (length s - at) (drop at s))
 
-        front_is : take (p.at - from) (drop from s) ≡ bodies_of (below a.number l)
-        front_is = (λ i. take ((there i).at - g i) (drop (g i) s)) ∙ front_part s areas_sound a.number
+        front_is : take (at - from) (drop from s) ≡ bodies_of (below a.number l)
+        front_is = (λ i. take (there i - g i) (drop (g i) s)) ∙ front_part s areas_sound a.number
 
-        back_is : take (length s - p.at) (drop p.at s) ≡ bodies_of (onward a.number l)
-        back_is = (λ i. take (length s - (there i).at) (drop (there i).at s)) ∙ back_part s areas_sound a.number
+        back_is : take (length s - at) (drop at s) ≡ bodies_of (onward a.number l)
+        back_is = (λ i. take (length s - there i) (drop (there i) s)) ∙ back_part s areas_sound a.number
 
-        pub cut_small : length (take (p.at - from) (drop from s)) + length (take (length area - 4) (drop 4 area)) + length (take (length s - p.at) (drop p.at s)) < 65533
+        pub cut_small : length (take (at - from) (drop from s)) + length (take (length area - 4) (drop 4 area)) + length (take (length s - at) (drop at s)) < 65533
         cut_small = omega (arith, added_small, ap length front_is, ap length area_part, ap length back_is)
 
         pub cut_frame : framed 13 (count + 1) three ≡ areas_frame (place a l)

@@ -1,28 +1,16 @@
 -- The first refusal of several, the answer that it gives, and what a call then leaves. Assumes nothing.
-use Prim.Native.Nat.{ℕ, zero, suc}
+use Prim.Native.Nat.{ℕ, zero, suc, ◌<◌}
 use native.Mathlib.Omega.{arith}
 use mathlib.Core.Path.{◌≡◌, refl, sym, ap, ◌∙◌}
 use mathlib.Core.List.{List}
 use borrow.Author.Tests.{ne_eqb}
 use Rattle.wire.specs.Frame.{room_fault, frame_written}
-use Rattle.areas.specs.Held.{held, first, answer}
+use Rattle.areas.specs.Held.{held, answer}
 use Rattle.areas.specs.Calls.{code}
 use Rattle.frame_areas.specs.AreaFrame.{Sent}
 use Rattle.frame_areas.specs.AreasFrame.{areas_frame}
+use Rattle.frame_areas.proofs.Walk.{first_some}
 use Rattle.edit_areas.specs.Edit.{edited}
-
-pub first_zero : (n m : ℕ) → first n m ≡ 0 → (n ≡ 0) × (m ≡ 0)
-first_zero zero m e = (refl, e)
-first_zero (suc n) m e = absurd (omega arith)
-
-pub first_some : (n m : ℕ) → (n ≡ 0 → ⊥) → first n m ≡ n
-first_some zero m h = absurd (h refl)
-first_some (suc n) m h = refl
-
--- of three, the first two together
-pub first_three : (n m k : ℕ) → first n (first m k) ≡ first (first n m) k
-first_three zero m k = refl
-first_three (suc n) m k = refl
 
 pub code_answer : (n : ℕ) (l : List Sent) → code (answer n l) ≡ n
 code_answer zero l = refl
@@ -32,8 +20,8 @@ pub held_as : (n : ℕ) (l : List Sent) → code (answer n l) ≡ 0 → (n ≡ 0
 held_as n l e = let z = sym (code_answer n l) ∙ e in (z, ap (λ (k : ℕ). answer k l) z)
 
 -- a refusal comes first, and nothing is written
-pub declined : (n f : ℕ) (l : List Sent) (output : List ℕ) → f ≡ n → (f ≡ 0 → ⊥) → (f ≡ (edited n l output).number) × (output ≡ (edited n l output).output)
-declined n f l output e h = rw (← e, ne_eqb f 0 h, first_some f (room_fault (areas_frame l) output) h) (refl, refl)
+pub declined : (n f : ℕ) (l : List Sent) (output : List ℕ) → f ≡ n → 0 < f → (f ≡ (edited n l output).number) × (output ≡ (edited n l output).output)
+declined n f l output e h = rw (← e, ne_eqb f 0 (λ z. omega (arith, z, h)), first_some f (room_fault (areas_frame l) output) h) (refl, refl)
 
 -- none: the frame, where it has room
 pub allowed : (n : ℕ) (l m : List Sent) (output : List ℕ) → n ≡ 0 → l ≡ m

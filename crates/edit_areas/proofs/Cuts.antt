@@ -1,20 +1,19 @@
 -- The areas held, cut for an edit, as lists and as bytes. Assumes nothing.
-use Prim.Native.Nat.{ℕ, ◌+◌, ◌-◌, ◌≤◌, ◌<◌, min}
+use Prim.Native.Nat.{ℕ, ◌+◌, ◌≤◌, ◌<◌, min}
 use native.Mathlib.Omega.{arith}
 use mathlib.Core.Path.{◌≡◌, refl, sym, ap, ◌∙◌}
 use mathlib.Core.Bool.{Bool, true, false, ◌||◌, cond}
 use mathlib.Core.List.{List, [], ◌∷◌, ◌++◌, append_assoc}
 use lib.Dec.{ltb, eqb}
-use lib.ListN.{length, take, drop, length-append, length-drop, drop_of_length-le}
-use lib.Seq.{length-take-le}
+use lib.ListN.{length, length-append}
 use borrow.Author.Tests.{ltb-true, ltb-false, eqb-true, eqb-false, lt-ltb, le-ltb, eq-eqb, ne_eqb}
-use Rattle.wire.specs.Fields.{u8_at}
 use Rattle.areas.specs.Held.{All, Rising, holds, place, without}
 use Rattle.areas.proofs.Lists.{or_false, all_map}
-use Rattle.frame_areas.specs.AreaFrame.{Sent, body_of, area_of, body_size}
-use Rattle.frame_areas.specs.AreasFrame.{bodies, held_in, bodies_fit, bodies_of}
-use Rattle.frame_areas.proofs.Bodies.{bodies_end, number_at_lem, fit_goes, bodies_go, fit_enough}
-use Rattle.edit_areas.specs.Cut.{below, onward, first_is, place_of}
+use Rattle.frame_areas.specs.AreaFrame.{Sent, body_of}
+use Rattle.frame_areas.specs.AreasFrame.{held_in, bodies_of}
+use Rattle.std.specs.Prelude.{Result, Ok, Err}
+use Rattle.std.specs.Result.{is_ok}
+use Rattle.edit_areas.specs.Cut.{below, onward, first_is, cut_at, place_of}
 
 -- ---- lists
 pub split : (n : ℕ) (l : List Sent) → below n l ++ onward n l ≡ l
@@ -97,76 +96,62 @@ unfolding bodies_of
 bodies_append [] m = refl
 bodies_append (a ∷ l) m = ap (λ (r : List ℕ). body_of a ++ r) (bodies_append l m) ∙ sym (append_assoc (body_of a) (bodies_of l) (bodies_of m))
 
--- ---- the loop that finds the cut, at a byte with so many bodies left
-pub record Reached (s : List ℕ) (number left at : ℕ) : Type 0 where
-  pub within : at ≤ length s
-  pub fit : bodies_fit left (drop at s) ≡ true
-  pub place : at + length (bodies_of (below number (bodies left (drop at s)))) ≡ (place_of s number).at
-  pub first : first_is number (onward number (bodies left (drop at s))) ≡ (place_of s number).held
+-- ---- the loop that finds the cut
+-- of some areas, the first of which begins at a byte
+abbrev pub place_from : ℕ → ℕ → List Sent → Result ℕ ℕ
+place_from at n [] = Err at
+place_from at n (a ∷ l) = cond (ltb a.number n) (place_from (at + length (body_of a)) n l) (cond (eqb a.number n) (Ok at) (Err at))
 
-pub from_five : (s : List ℕ) → drop (min (length s) 5) s ≡ drop 5 s
-from_five s = by (ltb (length s) 5) refl
-  where
-    by : (t : Bool) → ltb (length s) 5 ≡ t → drop (min (length s) 5) s ≡ drop 5 s
-    by true h =
-        let n : length s < 5 = ltb-true (length s) 5 h in
-        drop_of_length-le s {i = min (length s) 5} (omega arith) ∙ sym (drop_of_length-le s {i = 5} (omega arith))
-    by false h =
-        let n : 5 ≤ length s = ltb-false (length s) 5 h in
-        let e : min (length s) 5 ≡ 5 = omega arith in
-        ap (λ (k : ℕ). drop k s) e
+abbrev placed_at : Bool → ℕ → Result ℕ ℕ
+placed_at b at = cond b (Ok at) (Err at)
 
-pub starts : (s : List ℕ) (number : ℕ) → bodies_fit (u8_at s 4) (drop 5 s) ≡ true → Reached s number (u8_at s 4) (min (length s) 5)
-unfolding place_of held_in
-starts s number h = record { within = omega arith; fit = rw (from_five s) h; place = rw (from_five s); first = rw (from_five s) }
-
-pub ends : (s : List ℕ) (number left at : ℕ) → Reached s number left at → left ≤ 0 → record { at = at; held = false } ≡ place_of s number
+found_from : (at n : ℕ) (l : List Sent) → place_from at n l ≡ placed_at (first_is n (onward n l)) (at + length (bodies_of (below n l)))
 unfolding below onward bodies_of
-ends s number left at r h =
-    let p = rw (bodies_end left (drop at s) h) at r.place in
-    let q = rw (bodies_end left (drop at s) h) at r.first in
-    let e : at ≡ (place_of s number).at = omega arith in
-    λ i. record { at = e i; held = q i }
+found_from at n [] = let e : at + 0 ≡ at = omega arith in rw e
+found_from at n (a ∷ l) = by (ltb a.number n) (found_from (at + length (body_of a)) n l)
+  where
+    by : (t : Bool) → place_from (at + length (body_of a)) n l ≡ placed_at (first_is n (onward n l)) (at + length (body_of a) + length (bodies_of (below n l)))
+        → cond t (place_from (at + length (body_of a)) n l) (placed_at (eqb a.number n) at)
+        ≡ placed_at (first_is n (cond t (onward n l) (a ∷ l))) (at + length (bodies_of (cond t (a ∷ below n l) [])))
+    by true h =
+        let e : at + length (body_of a) + length (bodies_of (below n l)) ≡ at + length (body_of a ++ bodies_of (below n l)) = omega (arith, length-append a.corners (bodies_of (below n l))) in
+        h ∙ ap (placed_at (first_is n (onward n l))) e
+    by false h = let e : at + 0 ≡ at = omega arith in rw e
 
-module _ (s : List ℕ) (number left at size : ℕ) (r : Reached s number left at) (p : 0 < left) (e : size ≡ body_size (take (length s - at) (drop at s))) where
-  pub enough : size ≤ length s - at
-  enough = fit_enough s at size e left p r.fit
+pub starts : (s : List ℕ) (n : ℕ) → place_from (min (length s) 5) n (held_in s) ≡ place_of s n
+unfolding cut_at place_of
+starts s n = found_from (min (length s) 5) n (held_in s)
 
-  abbrev part : List ℕ
-  part = take (at + size - at) (drop at s)
+-- the first of those left is passed
+pub passes : (at n size : ℕ) (a : Sent) (l : List Sent) (x : Result ℕ ℕ) → place_from at n (a ∷ l) ≡ x → a.number < n → size ≡ length (body_of a) → place_from (at + size) n l ≡ x
+passes at n size a l x h k e = rw e (rw (lt-ltb a.number n k) at h)
 
-  part_long : length part ≡ size
-  part_long =
-      let w = r.within in
-      let n = enough in
-      let m : at + size - at ≡ size = omega arith in
-      length-take-le (at + size - at) (drop at s) (omega (arith, length-drop at s)) ∙ m
+-- or it is where the number is, or would be
+pub halts : (at n : ℕ) (a : Sent) (l : List Sent) (x : Result ℕ ℕ) → place_from at n (a ∷ l) ≡ x → n ≤ a.number → placed_at (eqb a.number n) at ≡ x
+halts at n a l x h k = rw (le-ltb a.number n k) at h
 
-  pub stops : number ≤ u8_at s at → record { at = at; held = eqb (u8_at s at) number } ≡ place_of s number
-  unfolding below onward bodies_of
-  stops h =
-      let b = bodies_go s at size e left p enough in
-      let n : u8_at s at ≡ (area_of part).number = number_at_lem s at size e in
-      let t = le-ltb (area_of part).number number (omega (arith, n, h)) in
-      let x = rw (b, t) at r.place in
-      let y = rw (b, t) at r.first in
-      let k : at ≡ (place_of s number).at = omega arith in
-      λ i. record { at = k i; held = (ap (λ (j : ℕ). eqb j number) n ∙ y) i }
+-- ---- a place tells whether the number is held, and the byte
+module _ (s : List ℕ) (n : ℕ) where
+  told : (b : Bool) (x : ℕ) → is_ok (placed_at b x) ≡ b
+  told true x = refl
+  told false x = refl
 
-  pub goes : u8_at s at < number → Reached s number (left - 1) (at + size)
-  unfolding below onward bodies_of
-  goes h =
-      let b = bodies_go s at size e left p enough in
-      let n : u8_at s at ≡ (area_of part).number = number_at_lem s at size e in
-      let t = lt-ltb (area_of part).number number (omega (arith, n, h)) in
-      let x = rw (b, t) at r.place in
-      let y = rw (b, t) at r.first in
-      let m = bodies_of (below number (bodies (left - 1) (drop (at + size) s))) in
-      let w = r.within in
-      let k = enough in
-      record {
-        within = omega arith;
-        fit = sym (fit_goes s at size e left p enough) ∙ r.fit;
-        place = omega (arith, x, length-append (drop 1 part) m, length-drop 1 part, part_long, e);
-        first = y;
-      }
+  pub place_ok : is_ok (place_of s n) ≡ first_is n (onward n (held_in s))
+  unfolding place_of
+  place_ok = told (first_is n (onward n (held_in s))) (cut_at s n)
+
+  pub at_ok : (at : ℕ) → place_of s n ≡ Ok at → (first_is n (onward n (held_in s)) ≡ true) × (at ≡ cut_at s n)
+  unfolding place_of
+  at_ok at h = by (first_is n (onward n (held_in s))) h
+    where
+      by : (b : Bool) → placed_at b (cut_at s n) ≡ Ok at → (b ≡ true) × (at ≡ cut_at s n)
+      by true h = (refl, cc)
+      by false h = cc
+
+  pub at_err : (at : ℕ) → place_of s n ≡ Err at → at ≡ cut_at s n
+  unfolding place_of
+  at_err at h = by (first_is n (onward n (held_in s))) h
+    where
+      by : (b : Bool) → placed_at b (cut_at s n) ≡ Err at → at ≡ cut_at s n
+      by true h = cc
+      by false h = cc

@@ -10,7 +10,9 @@ use lib.ListN.{length, take, drop, length-append}
 use lib.Seq.{take_at}
 use borrow.Author.Tests.{eq-eqb, ne_eqb, le-ltb}
 use Rattle.wire.specs.Fields.{u8_at, number_at, u16_at, le_bytes, le16}
-use Rattle.wire.specs.Frame.{whole_frame, frame_head, room_fault, frame_written}
+use Rattle.std.specs.Prelude.{Result, Ok, Err, ⊤}
+use Rattle.wire.specs.declared.FrameError.{FrameError}
+use Rattle.wire.specs.Frame.{frame_number, whole_frame, frame_head, room_fault, frame_written, check_room}
 use Rattle.wire.proofs.Fields.{u16_back}
 use Rattle.areas.specs.Held.{held, first, holds, place, without, area_fault, taken, add, remove}
 use Rattle.areas.specs.Calls.{Line, called, code, kept, held_after, history, StillPresent}
@@ -21,7 +23,8 @@ use Rattle.frame_areas.specs.AreaFrame.{Sent, area_rules, area_frame_fault, area
 use Rattle.frame_areas.specs.AreasFrame.{bodies, held_in, areas_fault, bodies_of, areas_frame}
 use Rattle.frame_areas.proofs.Frames.{Accepted, accepted, accepted_small, accepted_frame, accepted_place, accepted_without, areas_back, areas_length, area_sent}
 use Rattle.edit_areas.specs.Edit.{edited, add_call, remove_call}
-use Rattle.edit_areas.proofs.Answers.{first_zero, held_as}
+use Rattle.frame_areas.proofs.Walk.{first_zero}
+use Rattle.edit_areas.proofs.Answers.{held_as}
 use Rattle.edit_areas.specs.History.{Edit, adds_area, removes_area, on, call_of, frame_after, answers, accepted_calls, frame_of, EditsClaim}
 
 -- ---- the frame written, cut out of the output
@@ -41,13 +44,13 @@ whole l r k =
     )
     (omega arith)
 
-room : (b : Bool) → ◌≡◌ {A = ℕ} (cond b 5 0) 0 → b ≡ false
+room : (b : Bool) → frame_number (cond {A = Result ⊤ FrameError} b (Err FrameError.NoRoom) (Ok tt)) ≡ 0 → b ≡ false
 room false e = refl
 room true e = absurd (omega arith)
 
 cut : (l : List Sent) (output : List ℕ) → Accepted l → room_fault (areas_frame l) output ≡ 0
     → take (whole_frame (frame_written (areas_frame l) output)) (frame_written (areas_frame l) output) ≡ areas_frame l
-unfolding room_fault frame_written
+unfolding check_room frame_written
 cut l output p e =
     let r = drop (length (areas_frame l)) output in
     rw (room (ltb (length output) (length (areas_frame l))) e)

@@ -5,20 +5,17 @@ use mathlib.Core.Path.{◌≡◌, refl, sym, ap, ◌∙◌}
 use mathlib.Core.Bool.{true, false≢true}
 use mathlib.Core.List.{List, [], ◌∷◌, ◌++◌}
 use lib.ListN.{length, take, drop, length-append, length-drop}
-use lib.Seq.{take_all, take_at, drop_at, drop-drop}
+use lib.Seq.{take_at, drop_at, drop-drop}
 use Rattle.wire.specs.Fields.{u8_at}
 use Rattle.wire.specs.Frame.{frame_head}
 use Rattle.areas.specs.Held.{All, without}
 use Rattle.areas.proofs.Lists.{all_right}
 use Rattle.frame_areas.specs.AreaFrame.{Sent, body_of, body_size}
 use Rattle.frame_areas.specs.AreasFrame.{held_in, areas_fault, bodies_of, areas_frame}
-use Rattle.frame_areas.proofs.Frames.{AsSent, Filled, filled, body_size_lem, accepted, accepted_fit}
-use Rattle.edit_areas.specs.Cut.{below, onward, first_is, place_of, framed}
-use Rattle.edit_areas.proofs.Cuts.{split, behind, taken_out, bodies_append, from_five}
-
--- what a slice from i on is
-pub rest : (s : List ℕ) (i : ℕ) → take (length s - i) (drop i s) ≡ drop i s
-rest s i = take_all (length s - i) (drop i s) (omega (arith, length-drop i s))
+use Rattle.frame_areas.proofs.Walk.{AsSent, Filled, filled, rest, from_five}
+use Rattle.frame_areas.proofs.Frames.{body_size_lem, accepted, accepted_fit}
+use Rattle.edit_areas.specs.Cut.{below, onward, first_is, cut_at, framed}
+use Rattle.edit_areas.proofs.Cuts.{split, behind, taken_out, bodies_append}
 
 pub framed_areas : (l : List Sent) (count : ℕ) (b : List ℕ) → count ≡ length l → b ≡ bodies_of l → framed 13 count b ≡ areas_frame l
 unfolding framed areas_frame
@@ -60,25 +57,25 @@ module _ (s : List ℕ) (e : areas_fault s ≡ 0) where
     parts : drop (min (length s) 5) s ≡ front ++ back
     parts = from_five s ∙ sym held_bytes ∙ ap bodies_of (sym (split n (held_in s))) ∙ bodies_append (below n (held_in s)) (onward n (held_in s))
 
-    pub at_is : (place_of s n).at ≡ min (length s) 5 + length front
-    unfolding place_of
+    pub at_is : cut_at s n ≡ min (length s) 5 + length front
+    unfolding cut_at
     at_is = refl
 
-    pub at_within : (place_of s n).at + length back ≡ length s
+    pub at_within : cut_at s n + length back ≡ length s
     at_within = omega (arith, at_is, ap length parts, length-append front back, length-drop (min (length s) 5) s)
 
-    pub front_part : take ((place_of s n).at - min (length s) 5) (drop (min (length s) 5) s) ≡ front
-    front_part = rw parts (take_at front back ((place_of s n).at - min (length s) 5) (omega (arith, at_is)))
+    pub front_part : take (cut_at s n - min (length s) 5) (drop (min (length s) 5) s) ≡ front
+    front_part = rw parts (take_at front back (cut_at s n - min (length s) 5) (omega (arith, at_is)))
 
-    from_at : drop (place_of s n).at s ≡ back
+    from_at : drop (cut_at s n) s ≡ back
     from_at =
         ap (λ (k : ℕ). drop k s) at_is
         ∙ sym (drop-drop (length front) (min (length s) 5) s)
         ∙ ap (drop (length front)) parts
         ∙ drop_at front back (length front) refl
 
-    pub back_part : take (length s - (place_of s n).at) (drop (place_of s n).at s) ≡ back
-    back_part = rest s (place_of s n).at ∙ from_at
+    pub back_part : take (length s - cut_at s n) (drop (cut_at s n) s) ≡ back
+    back_part = rest s (cut_at s n) ∙ from_at
 
     -- the body at the cut, where it has the number
     back_sent : All AsSent (onward n (held_in s))
@@ -94,23 +91,23 @@ module _ (s : List ℕ) (e : areas_fault s ≡ 0) where
       pub five : min (length s) 5 ≡ 5
       five = omega (arith, cut.0, at_is, at_within)
 
-      pub after_five : 5 ≤ (place_of s n).at
+      pub after_five : 5 ≤ cut_at s n
       after_five = omega (arith, five, at_is)
 
-      pub front_five : take ((place_of s n).at - 5) (drop 5 s) ≡ front
+      pub front_five : take (cut_at s n - 5) (drop 5 s) ≡ front
       front_five = rw five at front_part
 
-      module _ (size : ℕ) (g : size ≡ body_size (take (length s - (place_of s n).at) (drop (place_of s n).at s))) where
+      module _ (size : ℕ) (g : size ≡ body_size (take (length s - cut_at s n) (drop (cut_at s n) s))) where
         size_is : size ≡ body_size back
         size_is = g ∙ ap body_size back_part
 
-        pub end_within : (place_of s n).at + size ≤ length s
+        pub end_within : cut_at s n + size ≤ length s
         end_within = omega (arith, size_is, cut.0, at_within)
 
-        pub later_part : take (length s - ((place_of s n).at + size)) (drop ((place_of s n).at + size) s) ≡ later
+        pub later_part : take (length s - (cut_at s n + size)) (drop (cut_at s n + size) s) ≡ later
         later_part =
-            rest s ((place_of s n).at + size)
-            ∙ sym (drop-drop size (place_of s n).at s)
+            rest s (cut_at s n + size)
+            ∙ sym (drop-drop size (cut_at s n) s)
             ∙ (λ i. drop (size_is i) (from_at i))
             ∙ cut.1
 

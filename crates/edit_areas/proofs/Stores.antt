@@ -9,7 +9,7 @@ use Rattle.wire.specs.Fields.{le8, le_bytes, le16}
 use Rattle.wire.specs.Frame.{frame_head}
 use Rattle.wire.proofs.Stores.{sets_append}
 use Rattle.edit_areas.specs.Cut.{framed}
-use Rattle.edit_areas.proofs.Parts.{rest}
+use Rattle.frame_areas.proofs.Walk.{rest}
 
 -- what `slices::copy` leaves in the bytes from `at` on, in its place
 pub part_stored : {n : ℕ} {ys : List ℕ} (s part : List ℕ) (at : ℕ) → at + length part ≤ length s → n ≡ length part → ys ≡ take n part ++ drop n (take (length s - at) (drop at s))

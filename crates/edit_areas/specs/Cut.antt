@@ -1,9 +1,8 @@
 -- An edit from slice to slice: where the areas held are cut, and the frame of some bodies. Assumes nothing.
-use Rattle.std.specs.Prelude.{ℕ, ◌+◌, min, Bool, false, cond, List, [], ◌∷◌, ◌++◌, eqb, ltb, length}
+use Rattle.std.specs.Prelude.{ℕ, ◌+◌, min, Bool, false, cond, List, [], ◌∷◌, ◌++◌, eqb, ltb, length, Result, Ok, Err}
 use Rattle.wire.specs.Frame.{frame_head}
 use Rattle.frame_areas.specs.AreaFrame.{Sent}
 use Rattle.frame_areas.specs.AreasFrame.{held_in, bodies_of}
-use Rattle.edit_areas.specs.declared.Place.{Place}
 
 -- the areas before the first whose number is not below n
 unfoldable pub below : ℕ → List Sent → List Sent
@@ -19,9 +18,13 @@ abbrev pub first_is : ℕ → List Sent → Bool
 first_is n [] = false
 first_is n (a ∷ l) = eqb a.number n
 
--- the byte of a frame where those begin, and whether the first of them has number n
-unfoldable pub place_of : List ℕ → ℕ → Place
-place_of s n = record { at = min (length s) 5 + length (bodies_of (below n (held_in s))); held = first_is n (onward n (held_in s)) }
+-- the byte of a frame where those begin
+unfoldable pub cut_at : List ℕ → ℕ → ℕ
+cut_at s n = min (length s) 5 + length (bodies_of (below n (held_in s)))
+
+-- Ok where the first of them has number n
+unfoldable pub place_of : List ℕ → ℕ → Result ℕ ℕ
+place_of s n = cond (first_is n (onward n (held_in s))) (Ok (cut_at s n)) (Err (cut_at s n))
 
 -- the frame of a kind whose body is a byte, a count or a number, and others behind it
 unfoldable pub framed : ℕ → ℕ → List ℕ → List ℕ

@@ -1,5 +1,5 @@
 // The Rust's energy.rs: what a return to launch and a landing cost.
-#![tactic(auto)]
+#![tactic(auto, unfolding(crate::specs::Energy::rtl_wh, crate::specs::Energy::land_wh, crate::specs::Energy::rtl_energy_at, crate::specs::Energy::rtl_energy))]
 
 ghost use Rattle.std.specs.Prelude.{◌≡◌};
 ghost use Rattle.types.specs.Vec3.{alt_m};
@@ -29,19 +29,13 @@ fn land_wh(cfg: Config, h: f32) -> f32
 fn margin_of(remaining_wh: Option<f32>, rtl_wh: f32, reserve_wh: f32) -> Option<f32>
     ensures { result ≡ margin_of remaining_wh rtl_wh reserve_wh }
 {
-    match remaining_wh {
-        Some(r) => Some(r - rtl_wh - reserve_wh),
-        None => None,
-    }
+    remaining_wh.map(|r| r - rtl_wh - reserve_wh)
 }
 
 fn insufficient_of(remaining_wh: Option<f32>, land_wh: f32) -> bool
     ensures { result ≡ insufficient_of remaining_wh land_wh }
 {
-    match remaining_wh {
-        Some(r) => r < land_wh,
-        None => false,
-    }
+    remaining_wh.is_some_and(|r| r < land_wh)
 }
 
 // For a caller that has the horizontal distance home already: it is a root, and is taken once.
@@ -57,7 +51,7 @@ pub fn rtl_energy_by(cfg: Config, pos: Vec3, d: f32, remaining_wh: Option<f32>) 
         rtl_wh: rtl,
         land_wh: land,
         reserve_wh: cfg.reserve_wh,
-        remaining_wh: remaining_wh,
+        remaining_wh,
         margin_wh: margin,
         insufficient_for_landing: insufficient,
     }

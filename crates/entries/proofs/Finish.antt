@@ -1,5 +1,7 @@
 -- What the marked step leaves is the call on kinds 10 and 9, from the values that the code has. Assumes nothing.
-use Rattle.std.specs.Prelude.{Some, None}
+use Rattle.types.specs.declared.Telemetry.{Telemetry}
+use Rattle.wire.specs.declared.FrameError.{FrameError}
+use Rattle.std.specs.Prelude.{Some, None, Result, Ok, Err}
 use Prim.Native.Nat.{ℕ}
 use mathlib.Core.Bool.{Bool, true, false, cond}
 use mathlib.Core.List.{List}
@@ -17,10 +19,8 @@ use Rattle.frame_wide_trips.proofs.StateMarks.{frame_on}
 use Rattle.instants.specs.Retimed.{Instants}
 use Rattle.supervisor.specs.declared.Supervisor.{Supervisor}
 use Rattle.supervisor.specs.declared.Stepped.{Stepped}
-use Rattle.frame_state.specs.declared.StateRead.{StateRead}
 use Rattle.frame_state.specs.StateFrame.{read_state}
 use Rattle.frame_state.proofs.Size.{size}
-use Rattle.frame_telemetry.specs.declared.TelemetryRead.{TelemetryRead}
 use Rattle.frame_telemetry.specs.TelemetryFrame.{read_telemetry}
 use Rattle.flight.specs.declared.Flight.{Flight}
 use Rattle.instants.specs.Listed.{listed, unlisted, stamps_listed, stamps_unlisted}
@@ -119,13 +119,13 @@ module _ (with_side : Bool) (f : Flight) (areas low telemetry output : List ℕ)
       at true = long
       at false = size false next.supervisor
 
-  telemetry_long : (s : Supervisor) (r : TelemetryRead) → length (after_telemetry with_side (base false) r f areas s low output).state ≡ 186
-  telemetry_long s (TelemetryRead.Refused n) = long
-  telemetry_long s (TelemetryRead.Frame t) = written_long (step_of (base false) f areas s t)
+  telemetry_long : (s : Supervisor) (r : Result Telemetry FrameError) → length (after_telemetry with_side (base false) r f areas s low output).state ≡ 186
+  telemetry_long s (Err d) = long
+  telemetry_long s (Ok t) = written_long (step_of (base false) f areas s t)
 
-  state_long : (r : StateRead) → length (after_state with_side (base false) r f areas low telemetry output).state ≡ 186
-  state_long (StateRead.Refused n) = long
-  state_long (StateRead.Frame s) = telemetry_long s (read_telemetry telemetry)
+  state_long : (r : Result Supervisor FrameError) → length (after_state with_side (base false) r f areas low telemetry output).state ≡ 186
+  state_long (Err d) = long
+  state_long (Ok s) = telemetry_long s (read_telemetry telemetry)
 
   pub left_long : (k : Bool) → k ≡ false → length (from_state with_side (base k) f areas low telemetry output).state ≡ 186
   left_long k e = subst (λ (b : Bool). length (from_state with_side (base b) f areas low telemetry output).state ≡ 186) (sym e) (state_long (read_state false low))

@@ -1,19 +1,19 @@
 -- A state that is judged by a step without telemetry, and a call whose telemetry has another head. Assumes nothing.
+use Rattle.types.specs.declared.Telemetry.{Telemetry}
+use Rattle.supervisor.specs.declared.Supervisor.{Supervisor}
+use Rattle.wire.specs.declared.FrameError.{FrameError}
+use Rattle.std.specs.Prelude.{Result, Ok, Err}
 use Prim.Native.Nat.{ℕ}
 use native.Mathlib.Omega.{arith}
 use mathlib.Core.Bool.{Bool, true, false, ◌&&◌, cond}
 use mathlib.Core.List.{List, []}
 use mathlib.Core.Path.{◌≡◌, refl, ap, sym, subst, ◌∙◌}
-use lib.Dec.{eqb}
 use lib.ListN.{replicate}
-use borrow.Author.Tests.{eq-eqb}
-use Rattle.wire.specs.Frame.{frame_fault}
-use Rattle.wire.proofs.Head.{head_says}
+use Rattle.wire.specs.Frame.{frame_fault, check_frame, frame_error_number, frame_number}
+use Rattle.wire.proofs.Head.{head_says, error_number, number_zero}
 use Rattle.wire.proofs.Whole.{whole}
 use Rattle.frame_wide_trips.proofs.StateMarks.{frame_on}
-use Rattle.frame_state.specs.declared.StateRead.{StateRead}
 use Rattle.frame_state.specs.StateFrame.{state_kind, state_length, state_at, state_valid, raised_read, raised_valid, read_state}
-use Rattle.frame_telemetry.specs.declared.TelemetryRead.{TelemetryRead}
 use Rattle.frame_telemetry.specs.TelemetryFrame.{read_telemetry}
 use Rattle.flight.specs.declared.Flight.{Flight}
 use Rattle.flight.specs.Flight.{or_refused}
@@ -21,82 +21,71 @@ use Rattle.frame_wide.specs.WideState.{state_on, wide_instants, with_instants, r
 use Rattle.frame_wide.specs.WideTelemetry.{read_wide_telemetry}
 use Rattle.calls.specs.Form.{base, wide}
 use Rattle.calls.specs.Entry.{StepCall, declined, after_telemetry, after_state, from_state}
-use Rattle.calls.specs.Marked.{refusal_of}
 
 -- the number of a step without telemetry
-asked : StateRead → ℕ
-asked (StateRead.Refused n) = n
-asked (StateRead.Frame s) = 1
+asked : Result Supervisor FrameError → ℕ
+asked (Err e) = frame_error_number e
+asked (Ok s) = 1
 
-no_telemetry : read_telemetry [] ≡ TelemetryRead.Refused 1
-unfolding read_telemetry frame_fault
+no_telemetry : read_telemetry [] ≡ Err FrameError.Incomplete
+unfolding read_telemetry check_frame
 no_telemetry = refl
 
 judge : (k : Bool) (f : Flight) (areas low : List ℕ) → from_state false (base k) f areas low [] [] ≡ declined (asked (read_state k low)) low []
 unfolding asked
 judge k f areas low = at (read_state k low)
   where
-    at : (r : StateRead) → after_state false (base k) r f areas low [] [] ≡ declined (asked r) low []
-    at (StateRead.Refused n) = refl
-    at (StateRead.Frame s) = ap (λ (q : TelemetryRead). after_telemetry false (base k) q f areas s low []) no_telemetry
-
-four_or : StateRead → ℕ
-four_or (StateRead.Refused n) = n
-four_or (StateRead.Frame s) = 4
-
-four : (k : Bool) (low : List ℕ) → frame_fault (state_kind k) (state_length k) low ≡ 0 → four_or (read_state k low) ≡ 4
-unfolding read_state four_or
-four k low h = rw (eq-eqb _ _ h) (at (state_valid low && raised_valid k low))
-  where
-    at : (b : Bool) → four_or (cond b (StateRead.Frame (state_at low (raised_read k low))) (StateRead.Refused 4)) ≡ 4
-    at true = refl
-    at false = refl
+    at : (r : Result Supervisor FrameError) → after_state false (base k) r f areas low [] [] ≡ declined (asked r) low []
+    at (Err e) = refl
+    at (Ok s) = ap (λ (q : Result Telemetry FrameError). after_telemetry false (base k) q f areas s low []) no_telemetry
 
 -- 1 is no refusal of a state whose head is right
-accepts_one : (r : StateRead) → four_or r ≡ 4 → asked r ≡ 1 → 0 ≡ refusal_of r
-unfolding asked four_or
-accepts_one (StateRead.Frame s) f a = refl
-accepts_one (StateRead.Refused n) f a = let z : ◌≡◌ {A = ℕ} 1 4 = sym a ∙ f in absurd (omega arith)
-
-refuses_other : (r : StateRead) → (asked r ≡ 1 → ⊥) → asked r ≡ refusal_of r
-unfolding asked
-refuses_other (StateRead.Frame s) h = absurd (h refl)
-refuses_other (StateRead.Refused n) h = refl
+in_range_or : (k : Bool) (low : List ℕ) (e : FrameError) → check_frame (state_kind k) (state_length k) low ≡ Ok tt → read_state k low ≡ Err e → e ≡ FrameError.OutOfRange
+unfolding read_state
+in_range_or k low e h = rw h (at (state_valid low && raised_valid k low))
+  where
+    at : (b : Bool) → ◌≡◌ {A = Result Supervisor FrameError} (cond b (Ok (state_at low (raised_read k low))) (Err FrameError.OutOfRange)) (Err e) → e ≡ FrameError.OutOfRange
+    at true q = let z : ◌≡◌ {A = ℕ} 0 1 = cc in absurd (omega arith)
+    at false q = let v : FrameError.OutOfRange ≡ e = cc in sym v
 
 module _ (k : Bool) (f : Flight) (areas low : List ℕ) (head : frame_fault (state_kind k) (state_length k) low ≡ 0) where
   pub judged_same : (from_state false (base k) f areas low [] []).state ≡ low
   judged_same = ap (λ (c : StepCall). c.state) (judge k f areas low)
 
-  pub judged_accepted : (n : ℕ) → n ≡ (from_state false (base k) f areas low [] []).number → n ≡ 1 → 0 ≡ refusal_of (read_state k low)
-  judged_accepted n e one = accepts_one (read_state k low) (four k low head) (sym (ap (λ (c : StepCall). c.number) (judge k f areas low)) ∙ sym e ∙ one)
+  number_is : (n : ℕ) → n ≡ (from_state false (base k) f areas low [] []).number → n ≡ asked (read_state k low)
+  number_is n e = e ∙ ap (λ (c : StepCall). c.number) (judge k f areas low)
 
-  pub judged_refused : (n : ℕ) → n ≡ (from_state false (base k) f areas low [] []).number → (n ≡ 1 → ⊥) → n ≡ refusal_of (read_state k low)
-  judged_refused n e other =
-      let is = e ∙ ap (λ (c : StepCall). c.number) (judge k f areas low) in
-      is ∙ refuses_other (read_state k low) (λ a. other (is ∙ a))
+  pub judged_accepted : (n : ℕ) → n ≡ (from_state false (base k) f areas low [] []).number → n ≡ 1 → 0 ≡ frame_number (read_state k low)
+  unfolding asked
+  judged_accepted n e one = at (read_state k low) refl (sym one ∙ number_is n e)
+    where
+      at : (r : Result Supervisor FrameError) → read_state k low ≡ r → 1 ≡ asked r → 0 ≡ frame_number r
+      at (Ok s) p q = refl
+      at (Err x) p q = let four : ◌≡◌ {A = ℕ} 1 4 = q ∙ ap frame_error_number (in_range_or k low x (number_zero _ head) p) in absurd (omega arith)
 
--- ---- telemetry whose head is refused
+  pub judged_refused : (n : ℕ) → n ≡ (from_state false (base k) f areas low [] []).number → (n ≡ 1 → ⊥) → n ≡ frame_number (read_state k low)
+  unfolding asked
+  judged_refused n e other = at (read_state k low) (number_is n e)
+    where
+      at : (r : Result Supervisor FrameError) → n ≡ asked r → n ≡ frame_number r
+      at (Ok s) q = absurd (other q)
+      at (Err x) q = q
 
-refused_zero : StateRead → Bool
-refused_zero (StateRead.Frame s) = false
-refused_zero (StateRead.Refused n) = eqb n 0
+-- ---- a head that is refused
 
-no_zero : (s : List ℕ) → refused_zero (read_state false s) ≡ false
-unfolding read_state refused_zero
-no_zero s = at (eqb (frame_fault 5 184 s) 0) (state_valid s && raised_valid false s) refl
+pub wide_refused : (with_side : Bool) (f : Flight) (areas state telemetry output : List ℕ) (e : FrameError) → check_frame 10 304 state ≡ Err e
+    → from_state with_side wide f areas state telemetry output ≡ declined (frame_error_number e) state output
+unfolding read_wide_state
+wide_refused with_side f areas state telemetry output e h = rw h refl
+
+pub late_call : (with_side : Bool) (f : Flight) (areas state telemetry output : List ℕ) (e : FrameError) → check_frame 10 304 state ≡ Ok tt → check_frame 9 148 telemetry ≡ Err e
+    → from_state with_side wide f areas state telemetry output ≡ declined (or_refused (frame_number (read_state false (state_on (replicate 30 0) state))) (frame_error_number e)) state output
+unfolding read_wide_state read_wide_telemetry
+late_call with_side f areas state telemetry output e ok_s late = rw ok_s (at (read_state false (state_on (replicate 30 0) state)))
   where
-    at : (a b : Bool) → eqb (frame_fault 5 184 s) 0 ≡ a → refused_zero (cond a (cond b (StateRead.Frame (state_at s (raised_read false s))) (StateRead.Refused 4)) (StateRead.Refused (frame_fault 5 184 s))) ≡ false
-    at true true e = refl
-    at true false e = refl
-    at false b e = e
-
-pub late_call : (with_side : Bool) (f : Flight) (areas state telemetry output : List ℕ) → frame_fault 10 304 state ≡ 0 → eqb (frame_fault 9 148 telemetry) 0 ≡ false → from_state with_side wide f areas state telemetry output ≡ declined (or_refused (refusal_of (read_state false (state_on (replicate 30 0) state))) (frame_fault 9 148 telemetry)) state output
-unfolding read_wide_state read_wide_telemetry refused_zero
-late_call with_side f areas state telemetry output ok_s late = rw (eq-eqb _ _ ok_s) (at (read_state false (state_on (replicate 30 0) state)) (no_zero (state_on (replicate 30 0) state)))
-  where
-    at : (r : StateRead) → refused_zero r ≡ false → after_state with_side wide (with_instants (wide_instants state) r) f areas state telemetry output ≡ declined (or_refused (refusal_of r) (frame_fault 9 148 telemetry)) state output
-    at (StateRead.Refused n) e = λ i. declined (cond (sym e i) (frame_fault 9 148 telemetry) n) state output
-    at (StateRead.Frame s) e = rw late refl
+    at : (r : Result Supervisor FrameError) → after_state with_side wide (with_instants (wide_instants state) r) f areas state telemetry output ≡ declined (or_refused (frame_number r) (frame_error_number e)) state output
+    at (Err x) = λ i. declined (cond (sym (error_number x) i) (frame_error_number e) (frame_error_number x)) state output
+    at (Ok s) = rw late refl
 
 -- the kind 5 of a kind 10 has its head
 pub low_head : (s : List ℕ) → frame_fault 10 304 s ≡ 0 → frame_fault 5 184 (state_on (replicate 30 0) s) ≡ 0

@@ -2,10 +2,11 @@
 #![tactic(auto)]
 
 ghost use Rattle.std.specs.Prelude.{◌≡◌, false, not, ◌&&◌, ◌++◌, ◌+◌, ◌≤◌, eqb, length, drop, replicate};
-ghost use Rattle.flight.specs.Flight.{or_refused, read_flight, step_flight};
+ghost use Rattle.flight.specs.Flight.{or_refused, refusal, read_flight, step_flight};
+ghost use Rattle.frame_areas.specs.AreaFrame.{area_number};
 ghost use Rattle.frame_areas.specs.AreasFrame.{areas_fault};
 ghost use Rattle.wire.specs.Fields.{u16_at};
-ghost use Rattle.wire.specs.Frame.{frame_fault};
+ghost use Rattle.wire.specs.Frame.{frame_error_number, frame_number, frame_fault};
 ghost use Rattle.frame_state.specs.StateFrame.{state_kind, state_length, read_state};
 ghost use Rattle.frame_wide.specs.WideState.{state_on};
 ghost use Rattle.instants.specs.Listed.{unlisted};
@@ -13,15 +14,82 @@ ghost use Rattle.frame_telemetry.specs.TelemetryFrame.{read_telemetry};
 ghost use Rattle.calls.specs.Form.{base, wide};
 ghost use Rattle.calls.specs.Entry.{flight_keeps, output_frame, output_size, written, after_telemetry, from_state, step_any, step_or_check, fresh_call};
 ghost use Rattle.calls.specs.Widen.{widen_call};
-ghost use Rattle.calls.specs.Marked.{marked_flight, refusal_of, widened_after};
+ghost use Rattle.calls.specs.Marked.{marked_flight, widened_after};
+ghost use Rattle.entries.specs.Errors.{call_error_number, call_number};
 
-use flight::Flight;
-use frame_state::StateRead;
-use frame_telemetry::TelemetryRead;
+use carry::CarryError;
+use flight::{Flight, FlightError};
+use frame_areas::AreaError;
 use frame_wide::StepInstants;
 use supervisor::Supervisor;
 use types::{Decision, Telemetry};
+use wire::FrameError;
 
+// Why a call is declined.
+#[derive(Clone, Copy)]
+pub enum CallError {
+    Frame(FrameError),
+    Flight(FlightError),
+    Areas(AreaError),
+    Carry(CarryError),
+}
+
+impl CallError {
+    // The number of the refusal: what a C host is answered.
+    pub fn number(self) -> u16
+        ensures { result ≡ call_error_number self }
+    {
+        match self {
+            CallError::Frame(e) => e.number(),
+            CallError::Flight(e) => e.number(),
+            CallError::Areas(e) => e.number(),
+            CallError::Carry(e) => e.number(),
+        }
+    }
+}
+
+impl From<FrameError> for CallError {
+    ghost use Rattle.entries.specs.declared.CallError.{CallError};
+
+    ghost from_gives = { λ e r. r ≡ CallError.Frame e };
+
+    fn from(e: FrameError) -> CallError {
+        CallError::Frame(e)
+    }
+}
+
+impl From<FlightError> for CallError {
+    ghost use Rattle.entries.specs.declared.CallError.{CallError};
+
+    ghost from_gives = { λ e r. r ≡ CallError.Flight e };
+
+    fn from(e: FlightError) -> CallError {
+        CallError::Flight(e)
+    }
+}
+
+impl From<AreaError> for CallError {
+    ghost use Rattle.entries.specs.declared.CallError.{CallError};
+
+    ghost from_gives = { λ e r. r ≡ CallError.Areas e };
+
+    fn from(e: AreaError) -> CallError {
+        CallError::Areas(e)
+    }
+}
+
+impl From<CarryError> for CallError {
+    ghost use Rattle.entries.specs.declared.CallError.{CallError};
+
+    ghost from_gives = { λ e r. r ≡ CallError.Carry e };
+
+    fn from(e: CarryError) -> CallError {
+        CallError::Carry(e)
+    }
+}
+
+// `with_side` stays a value: as a const parameter it would compile the whole step twice, and the readers would no longer have one
+// caller, for which the compiler puts them into the step. The buffers of a call travel together as the C interface has them.
 fn output_size(with_side: bool) -> usize
     ensures { result ≡ output_size with_side }
 {
@@ -33,7 +101,7 @@ fn write_output(with_side: bool, d: &Decision, side: u8, output: &mut [u8])
     requires { output_size with_side ≤ length output.old }
     ensures { output.new ≡ output_frame with_side d.now side ++ drop (output_size with_side) output.old }
 {
-    frame_decision::write_decision(output, *d);
+    frame_decision::put_decision(output, *d);
     if with_side {
         frame_side::put_side(output, side, d.disarm_eligible);
     }
@@ -48,19 +116,19 @@ fn step_write(
     t: &Telemetry,
     state: &mut [u8],
     output: &mut [u8],
-) -> u32
+) -> Result<(), CallError>
     requires { length state.old ≡ 2 + state_length (flight_keeps flight.now) }
-    ensures value { result ≡ (written with_side (base (flight_keeps flight.now)) (step_flight flight.now areas.now s.now t.now) state.old output.old).number }
+    ensures value { call_number result ≡ (written with_side (base (flight_keeps flight.now)) (step_flight flight.now areas.now s.now t.now) state.old output.old).number }
     ensures state_after { state.new ≡ (written with_side (base (flight_keeps flight.now)) (step_flight flight.now areas.now s.now t.now) state.old output.old).state }
     ensures output_after { output.new ≡ (written with_side (base (flight_keeps flight.now)) (step_flight flight.now areas.now s.now t.now) state.old output.old).output }
 {
     if output.len() < output_size(with_side) {
-        return 5;
+        return Err(CallError::Frame(FrameError::NoRoom));
     }
     let next = flight::step_flight(flight, areas, s, t);
-    frame_state::write_state(state, flight.cfg.keeps_raised, next.supervisor);
+    frame_state::write_state(state, flight.cfg.keeps_raised, next.supervisor)?;
     write_output(with_side, &next.decision, next.side, output);
-    0
+    Ok(())
 }
 
 fn step_telemetry(
@@ -71,16 +139,14 @@ fn step_telemetry(
     state: &mut [u8],
     telemetry: &[u8],
     output: &mut [u8],
-) -> u32
+) -> Result<(), CallError>
     requires { length state.old ≡ 2 + state_length (flight_keeps flight.now) }
-    ensures value { result ≡ (after_telemetry with_side (base (flight_keeps flight.now)) (read_telemetry telemetry.now) flight.now areas.now s.now state.old output.old).number }
+    ensures value { call_number result ≡ (after_telemetry with_side (base (flight_keeps flight.now)) (read_telemetry telemetry.now) flight.now areas.now s.now state.old output.old).number }
     ensures state_after { state.new ≡ (after_telemetry with_side (base (flight_keeps flight.now)) (read_telemetry telemetry.now) flight.now areas.now s.now state.old output.old).state }
     ensures output_after { output.new ≡ (after_telemetry with_side (base (flight_keeps flight.now)) (read_telemetry telemetry.now) flight.now areas.now s.now state.old output.old).output }
 {
-    match frame_telemetry::read_telemetry(telemetry) {
-        TelemetryRead::Refused(n) => n as u32,
-        TelemetryRead::Frame(t) => step_write(with_side, flight, areas, s, &t, state, output),
-    }
+    let t = frame_telemetry::read_telemetry(telemetry)?;
+    step_write(with_side, flight, areas, s, &t, state, output)
 }
 
 // State, then telemetry. Each refusal ends the call where it is found, so no blank state or Decision is handed on.
@@ -91,30 +157,23 @@ fn step_state(
     state: &mut [u8],
     telemetry: &[u8],
     output: &mut [u8],
-) -> u32
-    ensures value { result ≡ (from_state with_side (base (flight_keeps flight.now)) flight.now areas.now state.old telemetry.now output.old).number }
+) -> Result<(), CallError>
+    ensures value { call_number result ≡ (from_state with_side (base (flight_keeps flight.now)) flight.now areas.now state.old telemetry.now output.old).number }
     ensures state_after { state.new ≡ (from_state with_side (base (flight_keeps flight.now)) flight.now areas.now state.old telemetry.now output.old).state }
     ensures output_after { output.new ≡ (from_state with_side (base (flight_keeps flight.now)) flight.now areas.now state.old telemetry.now output.old).output }
 {
-    match frame_state::read_state(state, flight.cfg.keeps_raised) {
-        StateRead::Refused(n) => n as u32,
-        StateRead::Frame(s) => step_telemetry(
-            with_side, flight, areas, &s, state, telemetry, output,
-        ),
-    }
+    let s = frame_state::read_state(state, flight.cfg.keeps_raised)?;
+    step_telemetry(with_side, flight, areas, &s, state, telemetry, output)
 }
 
-// The flight's refusal, or else that of the areas. Most flights have none, and then nothing is called.
-fn first_refusal(refused: u16, areas: &[u8]) -> u16
-    ensures { result ≡ or_refused refused (areas_fault areas.now) }
+// The areas' refusal. Most flights have none, and then nothing is called.
+fn check_areas(areas: &[u8]) -> Result<(), AreaError>
+    ensures { area_number result ≡ areas_fault areas.now }
 {
-    if refused != 0 {
-        return refused;
-    }
     if areas.is_empty() {
-        return 0;
+        return Ok(());
     }
-    frame_areas::areas_fault(areas)
+    frame_areas::check_areas(areas)
 }
 
 // ---- kinds 9 and 10: the step above on marks of how each test of the 64-bit clock comes out
@@ -136,13 +195,15 @@ fn marked_flight(flight: &Flight, age: u64) -> Flight
 
 // Whether a kind 5 is refused for a field out of range. It is asked by a step without telemetry, which answers 1 where the state is accepted: so `read_state`
 // has one caller, and the compiler puts it into the step.
-fn state_fault(flight: &Flight, areas: &[u8], low: &mut [u8]) -> u32
+fn check_state(flight: &Flight, areas: &[u8], low: &mut [u8]) -> Result<(), CallError>
     requires { frame_fault (state_kind (flight_keeps flight.now)) (state_length (flight_keeps flight.now)) low.old ≡ 0 }
-    ensures value { result ≡ refusal_of (read_state (flight_keeps flight.now) low.old) }
+    ensures value { call_number result ≡ frame_number (read_state (flight_keeps flight.now) low.old) }
     ensures low_unchanged { low.new ≡ low.old }
 {
-    let n = step_state(false, flight, areas, low, &[], &mut []);
-    if n == 1 { 0 } else { n }
+    match step_state(false, flight, areas, low, &[], &mut []) {
+        Ok(()) => Ok(()),
+        Err(e) => { if e.number() == 1 { Ok(()) } else { Err(e) } }
+    }
 }
 
 // The kind 10 after a step whose kind 5 is `low` and whose Decision is in `output`.
@@ -177,9 +238,9 @@ fn step_marked(
     state: &mut [u8],
     telemetry: &[u8],
     output: &mut [u8],
-) -> u32
+) -> Result<(), CallError>
     requires { (flight_keeps flight.now ≡ false) × (frame_fault 10 304 state.old ≡ 0) × (frame_fault 9 148 telemetry.now ≡ 0) }
-    ensures value { result ≡ (from_state with_side wide flight.now areas.now state.old telemetry.now output.old).number }
+    ensures value { call_number result ≡ (from_state with_side wide flight.now areas.now state.old telemetry.now output.old).number }
     ensures state_after { state.new ≡ (from_state with_side wide flight.now areas.now state.old telemetry.now output.old).state }
     ensures output_after { output.new ≡ (from_state with_side wide flight.now areas.now state.old telemetry.now output.old).output }
 {
@@ -190,21 +251,24 @@ fn step_marked(
     let heartbeat = wire::flag_at(&reading, 77).then_some(j[6]);
     let age = marks::heartbeat_age(j[0], heartbeat);
     let marked = marked_flight(flight, age);
-    let n = step_state(with_side, &marked, areas, &mut low, &reading, output);
-    if n == 0 {
-        widen_after(state, &low, &x, j[0], j[1], output);
-    }
-    n
+    step_state(with_side, &marked, areas, &mut low, &reading, output)?;
+    widen_after(state, &low, &x, j[0], j[1], output);
+    Ok(())
 }
 
 // Telemetry whose head is refused: the state's own refusal comes first.
-fn late_refusal(flight: &Flight, areas: &[u8], state: &[u8], late: u16) -> u32
+fn late_error(
+    flight: &Flight,
+    areas: &[u8],
+    state: &[u8],
+    late: FrameError,
+) -> Result<(), CallError>
     requires { (flight_keeps flight.now ≡ false) × (frame_fault 10 304 state.now ≡ 0) }
-    ensures { result ≡ or_refused (refusal_of (read_state false (state_on (replicate 30 0) state.now))) late }
+    ensures { call_number result ≡ or_refused (frame_number (read_state false (state_on (replicate 30 0) state.now))) (frame_error_number late) }
 {
     let mut low = frame_wide::state_on(state, &[0; 30]);
-    let n = state_fault(flight, areas, &mut low);
-    if n == 0 { late as u32 } else { n }
+    check_state(flight, areas, &mut low)?;
+    Err(CallError::Frame(late))
 }
 
 // A step on a state of kind 10, beside a configuration of kind 1. A function of its own, so that a 32-bit step has neither its stack nor its registers.
@@ -216,19 +280,15 @@ fn step_wide(
     state: &mut [u8],
     telemetry: &[u8],
     output: &mut [u8],
-) -> u32
+) -> Result<(), CallError>
     requires { flight_keeps flight.now ≡ false }
-    ensures value { result ≡ (from_state with_side wide flight.now areas.now state.old telemetry.now output.old).number }
+    ensures value { call_number result ≡ (from_state with_side wide flight.now areas.now state.old telemetry.now output.old).number }
     ensures state_after { state.new ≡ (from_state with_side wide flight.now areas.now state.old telemetry.now output.old).state }
     ensures output_after { output.new ≡ (from_state with_side wide flight.now areas.now state.old telemetry.now output.old).output }
 {
-    let fault = wire::frame_fault(state, 10, 304);
-    if fault != 0 {
-        return fault as u32;
-    }
-    let late = wire::frame_fault(telemetry, 9, 148);
-    if late != 0 {
-        return late_refusal(flight, areas, state, late);
+    wire::check_frame(state, 10, 304)?;
+    if let Err(late) = wire::check_frame(telemetry, 9, 148) {
+        return late_error(flight, areas, state, late);
     }
     step_marked(with_side, flight, areas, state, telemetry, output)
 }
@@ -244,26 +304,17 @@ fn step_or_check(
     telemetry: &[u8],
     output: &mut [u8],
     areas: &[u8],
-) -> u32
-    ensures value { result ≡ (step_or_check checking with_side config.now fence.now state.old telemetry.now output.old areas.now).number }
+) -> Result<(), CallError>
+    ensures value { call_number result ≡ (step_or_check checking with_side config.now fence.now state.old telemetry.now output.old areas.now).number }
     ensures state_after { state.new ≡ (step_or_check checking with_side config.now fence.now state.old telemetry.now output.old areas.now).state }
     ensures output_after { output.new ≡ (step_or_check checking with_side config.now fence.now state.old telemetry.now output.old areas.now).output }
 {
-    let fault = frame_config::config_fault(config);
-    if fault != 0 {
-        return fault as u32;
-    }
-    let read = frame_fence::read_fence(fence);
-    if read.refused != 0 {
-        return read.refused as u32;
-    }
-    let flight = flight::accept_frame(&config[0..246], read);
-    let refused = first_refusal(flight.refused, areas);
-    if refused != 0 {
-        return refused as u32;
-    }
+    frame_config::check_config_frame(config)?;
+    let read = frame_fence::read_fence(fence)?;
+    let flight = flight::accept_frame(&config[0..246], &read)?;
+    check_areas(areas)?;
     if checking {
-        return 0;
+        return Ok(());
     }
     if is_wide(flight.cfg.keeps_raised, state) {
         step_wide(with_side, &flight, areas, state, telemetry, output)
@@ -281,8 +332,8 @@ pub fn step_any(
     telemetry: &[u8],
     output: &mut [u8],
     areas: &[u8],
-) -> u32
-    ensures value { result ≡ (step_any with_side config.now fence.now state.old telemetry.now output.old areas.now).number }
+) -> Result<(), CallError>
+    ensures value { call_number result ≡ (step_any with_side config.now fence.now state.old telemetry.now output.old areas.now).number }
     ensures state_after { state.new ≡ (step_any with_side config.now fence.now state.old telemetry.now output.old areas.now).state }
     ensures output_after { output.new ≡ (step_any with_side config.now fence.now state.old telemetry.now output.old areas.now).output }
 {
@@ -291,74 +342,66 @@ pub fn step_any(
     )
 }
 
-// The first refusal of configuration and fence, as a step gives it; 0 for none.
-pub fn check(config: &[u8], fence: &[u8]) -> u32
-    ensures { result ≡ (read_flight config.now fence.now).refused }
+// The first refusal of configuration and fence, as a step gives it.
+pub fn check(config: &[u8], fence: &[u8]) -> Result<(), CallError>
+    ensures { call_number result ≡ refusal (read_flight config.now fence.now) }
 {
     step_or_check(true, false, config, fence, &mut [], &[], &mut [], &[])
 }
 
 // A fresh state into the first 186 bytes, or 194 where it is for a configuration of kind 11; later bytes stay.
-pub fn fresh(keeps: bool, state: &mut [u8]) -> u32
-    ensures value { result ≡ (fresh_call (base keeps) state.old).number }
+pub fn fresh(keeps: bool, state: &mut [u8]) -> Result<(), CallError>
+    ensures value { call_number result ≡ (fresh_call (base keeps) state.old).number }
     ensures state_after { state.new ≡ (fresh_call (base keeps) state.old).state }
 {
-    frame_state::write_fresh(state, keeps) as u32
+    frame_state::write_fresh(state, keeps)?;
+    Ok(())
 }
 
 // The same of kind 10, into the first 306 bytes: its body is zero bytes alone.
-pub fn fresh_wide(state: &mut [u8]) -> u32
-    ensures value { result ≡ (fresh_call wide state.old).number }
+pub fn fresh_wide(state: &mut [u8]) -> Result<(), CallError>
+    ensures value { call_number result ≡ (fresh_call wide state.old).number }
     ensures state_after { state.new ≡ (fresh_call wide state.old).state }
 {
     if state.len() < 306 {
-        return 5;
+        return Err(CallError::Frame(FrameError::NoRoom));
     }
     wire::put_head(state, 10, 304);
     wire::put_zeros(state, 4, 302);
-    0
+    Ok(())
 }
 
 // ---- carrying over
 
-// The refusal of a state of kind 5, 0 for none: its head's, or that of a field out of range.
-fn old_fault(old: &[u8]) -> u32
-    ensures { result ≡ refusal_of (read_state false old.now) }
+// The refusal of a state of kind 5: its head's, or that of a field out of range.
+fn check_old(old: &[u8]) -> Result<(), CallError>
+    ensures { call_number result ≡ frame_number (read_state false old.now) }
 {
-    let fault = wire::frame_fault(old, 5, 184);
-    if fault != 0 {
-        return fault as u32;
-    }
+    wire::check_frame(old, 5, 184)?;
     let mut low = [0u8; 186];
     slices::copy(old, &mut low);
-    state_fault(&flight::refused_flight(0), &[], &mut low)
+    check_state(&Flight::default(), &[], &mut low)
 }
 
 // An accepted state on the 64-bit clock, into the first 306 bytes; later bytes stay.
-fn carry_over(old: &[u8], last_now: u64, new: &mut [u8]) -> u32
-    requires { refusal_of (read_state false old.now) ≡ 0 }
-    ensures value { result ≡ (widen_call old.now last_now new.old).number }
+fn carry_over(old: &[u8], last_now: u64, new: &mut [u8]) -> Result<(), CallError>
+    requires { frame_number (read_state false old.now) ≡ 0 }
+    ensures value { call_number result ≡ (widen_call old.now last_now new.old).number }
     ensures after { new.new ≡ (widen_call old.now last_now new.old).state }
 {
-    let refused = carry::refusal(old, last_now);
-    if refused != 0 {
-        return refused;
-    }
+    let x = carry::carry(old, last_now)?;
     if new.len() < 306 {
-        return 5;
+        return Err(CallError::Frame(FrameError::NoRoom));
     }
-    frame_wide::widen_state(old, &carry::instants(old, last_now), new);
-    0
+    frame_wide::widen_state(old, &x, new);
+    Ok(())
 }
 
 // A running state of kind 5 as one of kind 10: `last_now` is its last sound reading in 64 bits.
-pub fn widen(old: &[u8], last_now: u64, new: &mut [u8]) -> u32
-    ensures value { result ≡ (widen_call old.now last_now new.old).number }
+pub fn widen(old: &[u8], last_now: u64, new: &mut [u8]) -> Result<(), CallError>
+    ensures value { call_number result ≡ (widen_call old.now last_now new.old).number }
     ensures after { new.new ≡ (widen_call old.now last_now new.old).state }
 {
-    let fault = old_fault(old);
-    if fault != 0 {
-        return fault;
-    }
+    check_old(old)?;
     carry_over(old, last_now, new)
 }

@@ -1,13 +1,17 @@
 -- Configuration and fence of a flight. Document 01, 'When a call declines': "Across: configuration frame, fence frame, fence rules,
 -- configuration rules, state, telemetry, output." Assumes nothing.
-use Rattle.std.specs.Prelude.{ℕ, cond, List, eqb, Float, replicate, Result, Ok, Err}
-use Rattle.std.specs.Float.Ieee.{le}
-use Rattle.geometry.specs.declared.GeofenceResult.{GeofenceResult}
-use Rattle.geometry.specs.declared.SideLengths.{SideLengths}
+use Rattle.std.specs.Prelude.{ℕ, cond, List, eqb, replicate, Result, Ok, Err}
+use Rattle.std.specs.Result.{result_map_both, result_unwrap_or}
+use Rattle.wire.specs.declared.FrameError.{FrameError}
+use Rattle.wire.specs.Frame.{frame_error_number}
+use Rattle.corners.specs.declared.FenceError.{FenceError}
+use Rattle.corners.specs.Acceptance.{fence_error_number}
+use Rattle.geometry.specs.declared.Geofence.{Geofence}
 use Rattle.geometry.specs.Polygon.{zero_point}
 use Rattle.geometry.specs.Distance.{ring_of, side_lengths}
 use Rattle.config.specs.declared.Config.{Config}
-use Rattle.config.specs.Config.{config_error_number, check_config, validate_config}
+use Rattle.config.specs.declared.ConfigError.{ConfigError}
+use Rattle.config.specs.Config.{config_error_number, validate_config}
 use Rattle.config.specs.Default.{default_config}
 use Rattle.float32.specs.Binary32.{zero_f}
 use Rattle.types.specs.declared.Telemetry.{Telemetry}
@@ -15,58 +19,66 @@ use Rattle.supervisor.specs.declared.Supervisor.{Supervisor}
 use Rattle.supervisor.specs.declared.Stepped.{Stepped}
 use Rattle.supervisor.specs.Settings.{base_settings, fence_site_by, with_areas, fed_at}
 use Rattle.supervisor.specs.Step.{step}
-use Rattle.frame_config.specs.declared.ConfigRead.{ConfigRead}
 use Rattle.frame_config.specs.ConfigFrame.{read_config}
 use Rattle.frame_fence.specs.declared.FenceRead.{FenceRead}
-use Rattle.frame_fence.specs.FenceFrame.{read_fence, fence_of, fence_number}
+use Rattle.frame_fence.specs.FenceFrame.{read_fence, fence_of}
 use Rattle.flight.specs.declared.Flight.{Flight}
-use Rattle.config.specs.declared.ConfigError.{ConfigError}
+use Rattle.flight.specs.declared.FlightError.{FlightError}
 
 -- the first of two refusals; 0 is none
 abbrev pub or_refused : ℕ → ℕ → ℕ
 or_refused a b = cond (eqb a 0) b a
 
+-- the numbers of the refusals
+abbrev pub flight_error_number : FlightError → ℕ
+flight_error_number (FlightError.Frame e) = frame_error_number e
+flight_error_number (FlightError.Fence e) = fence_error_number e
+flight_error_number (FlightError.Config e) = config_error_number e
+
 abbrev pub config_number : {A : Type 0} → Result A ConfigError → ℕ
 config_number (Ok a) = 0
 config_number (Err e) = config_error_number e
 
+-- the number of what was read; 0 for none
+abbrev pub refusal : {A : Type 0} → Result A FlightError → ℕ
+refusal (Ok f) = 0
+refusal (Err e) = flight_error_number e
+
+-- a flight of settings and a fence, with the lengths of its sides
+abbrev pub flight_of : Config → Geofence → Flight
+flight_of cfg fence = record { cfg = cfg; fence = fence; lengths = side_lengths (ring_of fence.poly) }
+
 -- "fence rules, configuration rules"
-unfoldable pub accept_flight : Config → FenceRead → Flight
-accept_flight cfg read =
-    let made = fence_of read in
-    record {
-      refused = or_refused (fence_number made.result) (config_number (validate_config cfg made.fence));
-      cfg = cfg;
-      fence = made.fence;
-      lengths = side_lengths (ring_of made.fence.poly);
-    }
+abbrev pub settings_checked : Config → Result Geofence FenceError → Result Flight FlightError
+settings_checked cfg (Err e) = Err (FlightError.Fence e)
+settings_checked cfg (Ok fence) = result_map_both (λ _. flight_of cfg fence) FlightError.Config (validate_config cfg fence)
 
--- the same from what the fence rules gave, the lengths of the sides and home's distance: a helper of the code, which a law ties to it
-unfoldable pub flight_by : Config → GeofenceResult → SideLengths → Float → Flight
-flight_by cfg made lengths d =
-    record {
-      refused = or_refused (fence_number made.result) (config_number (check_config cfg (le zero_f d) made.fence.min_alt_m made.fence.max_alt_m));
-      cfg = cfg;
-      fence = made.fence;
-      lengths = lengths;
-    }
+unfoldable pub accept_flight : Config → FenceRead → Result Flight FlightError
+accept_flight cfg read = settings_checked cfg (fence_of read)
 
--- a refusal; what stands beside it is never used
-unfoldable pub refused_flight : ℕ → Flight
-refused_flight n =
+-- what stands where no flight is read: it is never flown
+unfoldable pub blank_flight : Flight
+blank_flight =
     record {
-      refused = n;
       cfg = default_config;
       fence = record { poly = record { verts = replicate 16 zero_point; len = 0 }; max_alt_m = zero_f; min_alt_m = zero_f };
       lengths = record { m = replicate 16 zero_f };
     }
 
--- "configuration frame, fence frame", then the rules
-abbrev pub after_config : ConfigRead → List ℕ → Flight
-after_config (ConfigRead.Refused n) fence = refused_flight n
-after_config (ConfigRead.Frame cfg) fence = let read = read_fence fence in cond (eqb read.refused 0) (accept_flight cfg read) (refused_flight read.refused)
+-- the flight that was read, or the blank one
+abbrev pub flight_or_blank : Result Flight FlightError → Flight
+flight_or_blank r = result_unwrap_or r blank_flight
 
-unfoldable pub read_flight : List ℕ → List ℕ → Flight
+-- "configuration frame, fence frame", then the rules
+abbrev pub after_fence : Config → Result FenceRead FrameError → Result Flight FlightError
+after_fence cfg (Err e) = Err (FlightError.Frame e)
+after_fence cfg (Ok read) = accept_flight cfg read
+
+abbrev pub after_config : Result Config FrameError → List ℕ → Result Flight FlightError
+after_config (Err e) fence = Err (FlightError.Frame e)
+after_config (Ok cfg) fence = after_fence cfg (read_fence fence)
+
+unfoldable pub read_flight : List ℕ → List ℕ → Result Flight FlightError
 read_flight config fence = after_config (read_config config) fence
 
 -- one step, with the lengths that the flight holds, and with the keep-out areas of a frame

@@ -6,7 +6,7 @@ use mathlib.Core.List.{List, [], ◌∷◌, ◌++◌}
 use native.Mathlib.Omega.{arith}
 use lib.Dec.{ltb, lit<}
 use lib.ListN.{length, take, drop, length-append, length-drop, take-append-drop, get_or-append}
-use lib.Seq.{length-take-le, take_at, drop_at, get_or-take, drop-cons}
+use lib.Seq.{take_at, drop_at, drop-cons}
 use borrow.Author.Tests.{le-ltb, ltb-true, ltb-false, ne_eqb}
 use Rattle.corners.proofs.Callers.{too_many}
 use Rattle.wire.specs.Fields.{Bytes, u8_at, number_at, u16_at, le_bytes, le16, bytes_from}
@@ -14,40 +14,22 @@ use Rattle.wire.specs.Frame.{frame_fault, frame_head}
 use Rattle.wire.proofs.Fields.{u16_back}
 use Rattle.wire.proofs.Head.{head_says, head_bytes, frame_sound}
 use Rattle.frame_fence.specs.FenceFrame.{fence_number}
-use Rattle.areas.specs.Held.{Area, Rules, held, first, All, place, without, area_fault, taken, answer, and_then, read_from, read}
+use Rattle.areas.specs.Held.{Area, Rules, held, All, place, without, area_fault, taken, answer, and_then, read_from, read}
 use Rattle.areas.specs.Calls.{code}
 use Rattle.areas.proofs.Lists.{all_map, all_place, all_without}
 use Rattle.areas.proofs.Good.{Good, Sound, clear, good_none, good_place, good_without, read_good, read_as}
-use Rattle.frame_areas.specs.AreaFrame.{Sent, area_rules, corners_sent, body_of, area_of, body_size, area_frame_fault, area_in, area_frame}
+use Rattle.frame_areas.specs.AreaFrame.{Sent, area_rules, corners_sent, body_of, area_of, body_size, check_area_frame, area_frame_fault, area_in, area_frame}
 use Rattle.frame_areas.specs.AreasFrame.{bodies, held_in, bodies_fit, counts_fit, areas_frame_fault, areas_fault, bodies_of, areas_frame}
-
--- the corners' bytes are as many as their count says
-abbrev pub AsSent : Sent → Type 0
-AsSent a = length a.corners ≡ 1 + 8 * u8_at a.corners 0
+use Rattle.frame_areas.proofs.Walk.{AsSent, body_back, body_sent, filled, first_zero}
 
 -- ---- one body
 pub area_back : (a : Sent) → area_of (body_of a) ≡ a
 unfolding u8_at
 area_back a = refl
 
-pub body_back : (b : List ℕ) → 1 ≤ length b → body_of (area_of b) ≡ b
-unfolding u8_at
-body_back [] h = absurd (omega arith)
-body_back (x ∷ b) h = refl
-
--- a body as long as its count says
-pub body_sent : (b : List ℕ) → length b ≡ body_size b → AsSent (area_of b)
-unfolding u8_at
-body_sent [] h = absurd (omega arith)
-body_sent (x ∷ b) h = omega arith
-
 pub body_size_lem : (a : Sent) (t : List ℕ) → AsSent a → body_size (body_of a ++ t) ≡ length (body_of a)
 unfolding u8_at
 body_size_lem a t h = omega (arith, get_or-append a.corners t 0 0 (omega arith))
-
-pub size_taken : (r : List ℕ) → body_size (take (body_size r) r) ≡ body_size r
-unfolding u8_at
-size_taken r = omega (arith, get_or-take (body_size r) r 1 0 (omega arith))
 
 -- ---- several
 module _ (n : ℕ) (b t : List ℕ) (h : body_size (b ++ t) ≡ length b) where
@@ -70,35 +52,7 @@ unfolding bodies_fit bodies_of
 bodies_fit_lem [] h = refl
 bodies_fit_lem (a ∷ l) h = fit_next (length l) (body_of a) (bodies_of l) (body_size_lem a (bodies_of l) h.0) ∙ bodies_fit_lem l h.1
 
--- as many bodies as fit some bytes are those bytes
-pub record Filled (n : ℕ) (r : List ℕ) : Type 0 where
-  pub same : bodies_of (bodies n r) ≡ r
-  pub count : length (bodies n r) ≡ n
-  pub sent : All AsSent (bodies n r)
-
-pub filled : (n : ℕ) (r : List ℕ) → bodies_fit n r ≡ true → Filled n r
-unfolding bodies bodies_fit bodies_of
-filled zero [] e = record { same = refl; count = refl; sent = tt }
-filled zero (x ∷ r) e = absurd (false≢true (sym (ne_eqb (suc (length r)) 0 (λ h. omega arith)) ∙ e))
-filled (suc n) r e = by (ltb (length r) (body_size r)) refl e (filled n (drop (body_size r) r))
-  where
-    by : (t : Bool) → ltb (length r) (body_size r) ≡ t → cond t false (bodies_fit n (drop (body_size r) r)) ≡ true
-        → (bodies_fit n (drop (body_size r) r) ≡ true → Filled n (drop (body_size r) r)) → Filled (suc n) r
-    by true q e on = absurd (false≢true e)
-    by false q e on =
-        let k = on e in
-        let long : length (take (body_size r) r) ≡ body_size r = length-take-le (body_size r) r (ltb-false (length r) (body_size r) q) in
-        record {
-          same = rw q ((λ i. body_back (take (body_size r) r) (omega arith) i ++ k.same i) ∙ take-append-drop (body_size r) r);
-          count = rw q (ap suc k.count);
-          sent = rw q (body_sent (take (body_size r) r) (long ∙ sym (size_taken r)), k.sent);
-        }
-
 -- ---- kind 13
-first_zero : (n m : ℕ) → first n m ≡ 0 → (n ≡ 0) × (m ≡ 0)
-first_zero zero m e = (refl, e)
-first_zero (suc n) m e = absurd (omega arith)
-
 else_three : (b : Bool) → ◌≡◌ {A = ℕ} (cond b 0 3) 0 → b ≡ true
 else_three true e = refl
 else_three false e = absurd (omega arith)
@@ -180,14 +134,14 @@ unfolding area_frame frame_head u8_at le16 le_bytes
 area_size a h = omega arith
 
 pub area_sound : (a : Sent) → AsSent a → 2 + length (body_of a) < 2 ^ 16 → area_frame_fault (area_frame a) ≡ 0
-unfolding area_frame_fault area_frame
+unfolding check_area_frame area_frame
 area_sound a h k =
     ap (λ (n : ℕ). frame_fault 7 (2 + n) (area_frame a)) (area_size a h)
     ∙ frame_sound 7 (2 + length (body_of a)) (body_of a) (lit< tt) k (omega arith) (omega arith)
 
 -- an area's frame without fault: the body behind the head is as long as its count says
 pub area_body : (s : List ℕ) → area_frame_fault s ≡ 0 → length (drop 4 s) ≡ body_size (drop 4 s)
-unfolding area_frame_fault
+unfolding check_area_frame
 area_body s e = omega (arith, (head_says 7 (2 + body_size (drop 4 s)) s e).1.1, length-drop 4 s)
 
 pub area_sent : (s : List ℕ) → area_frame_fault s ≡ 0 → AsSent (area_in s)
@@ -195,7 +149,7 @@ unfolding area_in
 area_sent s e = body_sent (drop 4 s) (area_body s e)
 
 pub area_same : (s : List ℕ) → Bytes s → area_frame_fault s ≡ 0 → area_frame (area_in s) ≡ s
-unfolding area_frame area_in area_frame_fault
+unfolding area_frame area_in check_area_frame
 area_same s b e =
     let n : length s ≡ 2 + (2 + body_size (drop 4 s)) = (head_says 7 (2 + body_size (drop 4 s)) s e).1.1 in
     let k = area_body s e in
@@ -219,7 +173,7 @@ count_fits b e = by (ltb 16 (u8_at b 0)) refl
     by false q = ltb-false 16 (u8_at b 0) q
     by true q = absurd (omega (arith, ap fence_number (sym (too_many true (u8_at b 0) (corners_sent b) (ltb-true 16 (u8_at b 0) q))) ∙ e))
 
-bodies_small : (l : List Sent) → All (Sound area_rules) l → All AsSent l → length (bodies_of l) ≤ 130 * length l
+pub bodies_small : (l : List Sent) → All (Sound area_rules) l → All AsSent l → length (bodies_of l) ≤ 130 * length l
 unfolding bodies_of
 bodies_small [] s h = omega arith
 bodies_small (a ∷ l) s h = omega (arith, bodies_small l s.1 h.1, count_fits a.corners s.0.polygon, h.0, length-append a.corners (bodies_of l))

@@ -1,5 +1,6 @@
 -- Laws of kinds 7 and 13.
-pub mod Bodies
+pub mod Walk
+pub mod Numbers
 pub mod Home
 pub mod Most
 pub mod None

@@ -1,36 +1,39 @@
--- A Config frame: the fault of the head that is due, and of a frame that is not refused the length and what is read. Assumes nothing.
+-- A Config frame that is accepted: its head, its flag, its length, and what is read. Assumes nothing.
 use Prim.Native.Nat.{ℕ}
-use native.Mathlib.Omega.{arith}
-use mathlib.Core.Bool.{Bool, true, false, cond}
+use mathlib.Core.Bool.{true}
 use mathlib.Core.List.{List}
-use mathlib.Core.Path.{◌≡◌, refl, ap, ◌∙◌}
-use lib.Dec.{eqb}
+use mathlib.Core.Path.{◌≡◌, refl, ap}
 use lib.ListN.{length}
-use borrow.Author.Tests.{eqb-true, eqb-false}
+use Rattle.std.specs.Prelude.{Result, Ok, Err, ⊤}
+use Rattle.std.specs.Result.{is_ok, result_and}
+use Rattle.wire.specs.declared.FrameError.{FrameError}
 use Rattle.wire.specs.Fields.{byte_below}
-use Rattle.wire.specs.Frame.{frame_fault}
-use Rattle.wire.proofs.Head.{head_says}
-use Rattle.config.specs.declared.Config.{Config}
-use Rattle.frame_config.specs.declared.ConfigRead.{ConfigRead}
-use Rattle.frame_config.specs.ConfigFrame.{config_kind, keeps_raised, config_at, read_config, config_refusal}
+use Rattle.wire.specs.Frame.{frame_number, check_frame}
+use Rattle.wire.proofs.Read.{accepted}
+use Rattle.wire.proofs.Head.{accepted_length}
+use Rattle.frame_config.specs.ConfigFrame.{config_kind, keeps_raised, config_at, check_config_frame, read_config}
 
-pub due_fault : (s : List ℕ) (k : ℕ) (b : Bool) → k ≡ config_kind b → b ≡ keeps_raised s → frame_fault k 244 s ≡ frame_fault (config_kind (keeps_raised s)) 244 s
-due_fault s k b e g = ap (λ (n : ℕ). frame_fault n 244 s) (e ∙ ap config_kind g)
+-- the head of either kind
+abbrev pub head_checked : List ℕ → Result ⊤ FrameError
+head_checked s = check_frame (config_kind (keeps_raised s)) 244 s
 
--- both tests came out well
-passed : (c : Config) (fault : ℕ) (f b : Bool) → eqb fault 0 ≡ f → config_refusal (cond f (cond b (ConfigRead.Frame c) (ConfigRead.Refused 4)) (ConfigRead.Refused fault)) ≡ 0
-    → (fault ≡ 0) × (cond f (cond b (ConfigRead.Frame c) (ConfigRead.Refused 4)) (ConfigRead.Refused fault) ≡ ConfigRead.Frame c)
-passed c fault true true e h = (eqb-true fault 0 e, refl)
-passed c fault true false e h = absurd (omega (arith, h))
-passed c fault false b e h = absurd (eqb-false fault 0 e h)
+read_checked : {A : Type 0} (c : Result ⊤ FrameError) (x : A) → frame_number (result_and c (Ok x)) ≡ frame_number c
+read_checked (Ok tt) x = refl
+read_checked (Err e) x = refl
 
-module _ (s : List ℕ) (h : config_refusal (read_config s) ≡ 0) where
-  tests : (frame_fault (config_kind (keeps_raised s)) 244 s ≡ 0) × (read_config s ≡ ConfigRead.Frame (config_at s (keeps_raised s)))
-  unfolding read_config
-  tests = passed (config_at s (keeps_raised s)) (frame_fault (config_kind (keeps_raised s)) 244 s) (eqb (frame_fault (config_kind (keeps_raised s)) 244 s) 0) (byte_below s 9 2) refl h
+-- what is read has the number of its check
+pub read_number : (s : List ℕ) → frame_number (read_config s) ≡ frame_number (check_config_frame s)
+unfolding read_config
+read_number s = read_checked (check_config_frame s) (config_at s (keeps_raised s))
+
+module _ (s : List ℕ) (h : check_config_frame s ≡ Ok tt) where
+  pub tests : (head_checked s ≡ Ok tt) × (byte_below s 9 2 ≡ true)
+  unfolding check_config_frame
+  tests = let a = accepted (head_checked s) (byte_below s 9 2) tt tt h in (a.0, a.1.0)
 
   pub length-due : length s ≡ 246
-  length-due = (head_says (config_kind (keeps_raised s)) 244 s tests.0).1.1
+  length-due = accepted_length (config_kind (keeps_raised s)) 244 s (ap is_ok tests.0)
 
-  pub config_read : read_config s ≡ ConfigRead.Frame (config_at s (keeps_raised s))
-  config_read = tests.1
+  pub config_read : read_config s ≡ Ok (config_at s (keeps_raised s))
+  unfolding read_config
+  config_read = ap (λ (r : Result ⊤ FrameError). result_and r (Ok (config_at s (keeps_raised s)))) h

@@ -3,21 +3,23 @@
 use Prim.Native.Nat.{ℕ, ◌+◌, ◌<◌, ◌^◌}
 use mathlib.Core.Path.{◌≡◌, ◌∙◌, ap, refl, subst}
 use mathlib.Core.List.{List, ◌∷◌, ◌++◌}
-use mathlib.Core.Bool.{Bool, true, false, cond}
+use mathlib.Core.Bool.{Bool, true, false}
 use native.Mathlib.Omega.{arith}
-use lib.Dec.{eqb, lit<}
+use lib.Dec.{lit<}
 use lib.ListN.{length}
-use borrow.Author.Tests.{eqb-true, eq-eqb, ne_eqb}
+use borrow.Author.Tests.{eq-eqb, ne_eqb}
 use Rattle.wire.specs.Fields.{Bytes, u8_at, number_at, u16_at, flag_at, u32_at, f32_at, byte_below, le8, le_flag, le_bytes, le16, le32, le_f32, bytes_from}
 use Rattle.wire.specs.Cell.{bytes_of, Within, U16, sorts_of, NoNan, nan_rewritten, widths}
-use Rattle.wire.specs.Frame.{frame_fault, frame_head}
+use Rattle.wire.specs.Frame.{check_frame, frame_number, frame_head}
 use Rattle.wire.proofs.Fields.{u16_back, u32_back, flag_back, flag_valid, f32_back}
-use Rattle.wire.proofs.Head.{head_says, head_bytes, frame_sound}
+use Rattle.wire.proofs.Head.{number_zero, head_bytes, frame_sound}
+use Rattle.wire.proofs.Read.{behind_head}
 use Rattle.wire.proofs.Cells.{cells_bytes, nan_free}
 use Rattle.wire.proofs.Whole.{whole}
 use Rattle.config.specs.declared.Config.{Config}
-use Rattle.frame_config.specs.declared.ConfigRead.TheVariants.{Frame, Refused}
-use Rattle.frame_config.specs.ConfigFrame.{config_kind, keeps_raised, config_at, read_config, config_frame, config_cells, freshness_cells, link_cells, fence_cells, battery_cells, energy_cells, flight_cells}
+use Rattle.std.specs.Prelude.{Ok}
+use Rattle.frame_config.proofs.Accepted.{head_checked, tests, length-due, config_read}
+use Rattle.frame_config.specs.ConfigFrame.{config_kind, keeps_raised, config_at, check_config_frame, read_config, config_frame, config_cells, freshness_cells, link_cells, fence_cells, battery_cells, energy_cells, flight_cells}
 
 fields : (c : Config) → Within (config_cells c) → config_at (config_frame c) c.keeps_raised ≡ c
 unfolding config_at config_frame config_cells freshness_cells link_cells fence_cells battery_cells energy_cells flight_cells frame_head u8_at number_at flag_at u32_at f32_at le8 le_flag le_bytes le16 le32 le_f32
@@ -163,41 +165,34 @@ kind : (c : Config) → keeps_raised (config_frame c) ≡ c.keeps_raised
 unfolding config_frame frame_head u8_at number_at u16_at le16 le_bytes
 kind c = kind_says c.keeps_raised (config_frame c) (u16_back (config_kind c.keeps_raised) (kind_fits c.keeps_raised))
 
--- the fault of the head of either kind
-abbrev head_fault : List ℕ → ℕ
-head_fault s = frame_fault (config_kind (keeps_raised s)) 244 s
-
 body : (c : Config) → length (bytes_of (config_cells c)) + 2 ≡ 244
 unfolding config_cells freshness_cells link_cells fence_cells battery_cells energy_cells flight_cells le8 le_flag le_bytes le32 le_f32
 body c = refl
 
-head : (c : Config) → head_fault (config_frame c) ≡ 0
+head : (c : Config) → head_checked (config_frame c) ≡ Ok tt
 unfolding config_frame
 head c =
-    ap (λ (b : Bool). frame_fault (config_kind b) 244 (config_frame c)) (kind c)
-    ∙ frame_sound (config_kind c.keeps_raised) 244 (bytes_of (config_cells c)) (kind_fits c.keeps_raised) (lit< tt) (omega arith) (body c)
+    ap (λ (b : Bool). check_frame (config_kind b) 244 (config_frame c)) (kind c)
+    ∙ number_zero _ (frame_sound (config_kind c.keeps_raised) 244 (bytes_of (config_cells c)) (kind_fits c.keeps_raised) (lit< tt) (omega arith) (body c))
 
 valid : (c : Config) → byte_below (config_frame c) 9 2 ≡ true
 unfolding byte_below config_frame config_cells freshness_cells link_cells fence_cells battery_cells energy_cells flight_cells frame_head u8_at le8 le_flag le_bytes le16 le32 le_f32
 valid c = flag_valid c.rc_required
 
--- value, bytes, value: for each Config whose numbers are within their types and whose floats are binary32's
-pub value_back : (c : Config) → Within (config_cells c) → read_config (config_frame c) ≡ Frame c
-unfolding read_config
-value_back c g = simp (head c, valid c) (ap Frame (ap (config_at (config_frame c)) (kind c) ∙ fields c g))
+checked : (c : Config) → check_config_frame (config_frame c) ≡ Ok tt
+unfolding check_config_frame
+checked c = simp (head c, valid c)
 
--- what an accepted frame says
-opened : (a b : Bool) (n : ℕ) (d c : Config) → cond a (cond b (Frame d) (Refused 4)) (Refused n) ≡ Frame c → (a ≡ true) × ((b ≡ true) × (d ≡ c))
-opened true true n d c e = (refl, (refl, cc))
-opened true false n d c e = let z : ◌≡◌ {A = ℕ} 0 1 = cc in absurd (omega arith)
-opened false b n d c e = let z : ◌≡◌ {A = ℕ} 0 1 = cc in absurd (omega arith)
+-- value, bytes, value: for each Config whose numbers are within their types and whose floats are binary32's
+pub value_back : (c : Config) → Within (config_cells c) → read_config (config_frame c) ≡ Ok c
+value_back c g = config_read (config_frame c) (checked c) ∙ ap Ok (ap (config_at (config_frame c)) (kind c) ∙ fields c g)
 
 -- what is read of either kind
 abbrev config_of : List ℕ → Config
 config_of s = config_at s (keeps_raised s)
 
 -- the frame of what was read, cell by cell
-cells : (s : List ℕ) → Bytes s → head_fault s ≡ 0 → byte_below s 9 2 ≡ true → config_frame (config_of s) ≡ nan_rewritten (U16 ∷ U16 ∷ sorts_of (config_cells (config_of s))) s 0
+cells : (s : List ℕ) → Bytes s → frame_number (head_checked s) ≡ 0 → byte_below s 9 2 ≡ true → config_frame (config_of s) ≡ nan_rewritten (U16 ∷ U16 ∷ sorts_of (config_cells (config_of s))) s 0
 unfolding config_at config_frame config_cells freshness_cells link_cells fence_cells battery_cells energy_cells flight_cells
 cells s b f h = λ j. head_bytes (config_kind (keeps_raised s)) 244 s b f j ++ cells_bytes (sorts_of (config_cells (config_of s))) s 4 b (h, tt) j
 
@@ -205,17 +200,16 @@ long : (c : Config) → widths (sorts_of (config_cells c)) ≡ 242
 unfolding config_cells freshness_cells link_cells fence_cells battery_cells energy_cells flight_cells
 long c = refl
 
-module _ (s : List ℕ) (c : Config) (b : Bytes s) (e : read_config s ≡ Frame c) where
-  accepted : (eqb (head_fault s) 0 ≡ true) × ((byte_below s 9 2 ≡ true) × (config_of s ≡ c))
+module _ (s : List ℕ) (c : Config) (b : Bytes s) (e : read_config s ≡ Ok c) where
+  accepted : (check_config_frame s ≡ Ok tt) × (config_of s ≡ c)
   unfolding read_config
-  accepted = opened (eqb (head_fault s) 0) (byte_below s 9 2) (head_fault s) (config_of s) c e
-
-  sound : head_fault s ≡ 0
-  sound = eqb-true (head_fault s) 0 accepted.0
+  accepted = let a = behind_head (check_config_frame s) (Ok (config_of s)) c e in (a.0, let h = a.1 in cc)
 
   -- bytes, value, bytes: each NaN's bits become 7FC00000, the head is two fields of two bytes
   pub bytes_back : config_frame c ≡ nan_rewritten (U16 ∷ U16 ∷ sorts_of (config_cells c)) s 0
-  bytes_back = subst (λ (d : Config). config_frame d ≡ nan_rewritten (U16 ∷ U16 ∷ sorts_of (config_cells d)) s 0) accepted.1.1 (cells s b sound accepted.1.0)
+  bytes_back =
+      let t = tests s accepted.0 in
+      subst (λ (d : Config). config_frame d ≡ nan_rewritten (U16 ∷ U16 ∷ sorts_of (config_cells d)) s 0) accepted.1 (cells s b (ap frame_number t.0) t.1)
 
   -- the very bytes, where no float is a NaN
   pub bytes_same : NoNan (U16 ∷ U16 ∷ sorts_of (config_cells c)) s 0 → config_frame c ≡ s
@@ -223,4 +217,4 @@ module _ (s : List ℕ) (c : Config) (b : Bytes s) (e : read_config s ≡ Frame 
       bytes_back
       ∙ nan_free (U16 ∷ U16 ∷ sorts_of (config_cells c)) s 0 b n
       ∙ ap (λ (k : ℕ). bytes_from s 0 (2 + (2 + k))) (long c)
-      ∙ whole 0 246 s (head_says (config_kind (keeps_raised s)) 244 s sound).1.1
+      ∙ whole 0 246 s (length-due s accepted.0)

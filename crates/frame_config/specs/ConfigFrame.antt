@@ -1,11 +1,12 @@
 -- Kind 1, Config: "Body fields stand in the Rust's declared order". Document 02, L11: "A configuration of kind 11, body as kind 1 and taken wherever
 -- kind 1 is, has its own rules". Assumes nothing.
-use Rattle.std.specs.Prelude.{List, [], ◌∷◌, ◌++◌, Bool, cond, ℕ, eqb}
+use Rattle.std.specs.Prelude.{List, [], ◌∷◌, ◌++◌, Bool, cond, ℕ, eqb, Result, Ok, Err, ⊤}
+use Rattle.std.specs.Result.{result_and}
 use Rattle.wire.specs.Fields.{u8_at, u16_at, flag_at, u32_at, f32_at, byte_below}
 use Rattle.wire.specs.Cell.{Cell, u8, flag, u32, f32, bytes_of}
-use Rattle.wire.specs.Frame.{frame_fault, frame_head}
+use Rattle.wire.specs.declared.FrameError.{FrameError}
+use Rattle.wire.specs.Frame.{check_frame, frame_head}
 use Rattle.config.specs.declared.Config.{Config}
-use Rattle.frame_config.specs.declared.ConfigRead.{ConfigRead}
 
 -- the kind of a configuration under which raised requests are kept, and of any other
 abbrev pub config_kind : Bool → ℕ
@@ -84,19 +85,15 @@ config_at s keeps =
       keeps_raised = keeps;
     }
 
--- the frame read: the head's refusal, 4 for a flag out of range, or the value
-unfoldable pub read_config : List ℕ → ConfigRead
-read_config s =
-    let keeps = keeps_raised s in
-    let fault = frame_fault (config_kind keeps) 244 s in
-    cond (eqb fault 0)
-    (cond (byte_below s 9 2) (ConfigRead.Frame (config_at s keeps)) (ConfigRead.Refused 4))
-    (ConfigRead.Refused fault)
+-- a frame is accepted by its head, and its one flag is 0 or 1
+unfoldable pub check_config_frame : List ℕ → Result ⊤ FrameError
+check_config_frame s =
+    result_and (check_frame (config_kind (keeps_raised s)) 244 s)
+    (cond (byte_below s 9 2) (Ok tt) (Err FrameError.OutOfRange))
 
--- the number of a frame that is refused; 0 where it is not
-abbrev pub config_refusal : ConfigRead → ℕ
-config_refusal (ConfigRead.Frame cfg) = 0
-config_refusal (ConfigRead.Refused n) = n
+-- the frame read
+unfoldable pub read_config : List ℕ → Result Config FrameError
+read_config s = result_and (check_config_frame s) (Ok (config_at s (keeps_raised s)))
 
 -- the fields as cells, in six parts
 unfoldable pub freshness_cells : Config → List Cell

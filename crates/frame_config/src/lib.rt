@@ -1,19 +1,15 @@
 // Kinds 1 and 11: Config in its frame of 246 bytes, read and written. Their bodies are the same.
-#![tactic(auto)]
+#![tactic(auto, unfolding(crate::specs::ConfigFrame::config_at, crate::specs::ConfigFrame::keeps_raised))]
 
-ghost use Rattle.std.specs.Prelude.{◌≡◌};
+ghost use Rattle.std.specs.Prelude.{◌≡◌, length};
+ghost use Rattle.std.specs.Result.{IfOk};
 ghost use Rattle.std.proofs.lemmas.List.Edits.{sets};
 ghost use Rattle.wire.specs.Cell.{bytes_of};
-ghost use Rattle.wire.specs.Frame.{room_fault, frame_written};
-ghost use Rattle.frame_config.specs.ConfigFrame.{config_kind, keeps_raised, config_at, read_config, config_refusal, freshness_cells, link_cells, fence_cells, battery_cells, energy_cells, flight_cells, config_frame};
+ghost use Rattle.wire.specs.Frame.{check_room, frame_written};
+ghost use Rattle.frame_config.specs.ConfigFrame.{config_kind, keeps_raised, config_at, check_config_frame, read_config, freshness_cells, link_cells, fence_cells, battery_cells, energy_cells, flight_cells, config_frame};
 
 use config::Config;
-
-#[derive(Clone, Copy)]
-pub enum ConfigRead {
-    Frame(Config),
-    Refused(u16),
-}
+use wire::FrameError;
 
 // A configuration under which raised requests are kept is a kind 11.
 fn config_kind(keeps_raised: bool) -> u16
@@ -98,42 +94,34 @@ fn config_at(s: &[u8], keeps_raised: bool) -> Config
     }
 }
 
-// The Config of a whole frame, or the refusal number: 1 to 3 for the head, 4 for a flag that is neither 0 nor 1.
-pub fn read_config(s: &[u8]) -> ConfigRead
-    ensures { result ≡ read_config s.now }
+// Whether a frame is accepted: its head, and its one flag is 0 or 1.
+#[tactic(auto, unfolding(crate::specs::ConfigFrame::check_config_frame))]
+pub fn check_config_frame(s: &[u8]) -> Result<(), FrameError>
+    ensures value { result ≡ check_config_frame s.now }
+    ensures len { IfOk result (λ _. length s.now ≡ 246) }
 {
-    let keeps = keeps_raised(s);
-    let kind = config_kind(keeps);
-    if wire::frame_fits(s, kind, 244) {
-        if wire::byte_below(s, 9, 2) {
-            ConfigRead::Frame(config_at(s, keeps))
-        } else {
-            ConfigRead::Refused(4)
-        }
+    wire::check_frame(s, config_kind(keeps_raised(s)), 244)?;
+    if wire::byte_below(s, 9, 2) {
+        Ok(())
     } else {
-        ConfigRead::Refused(wire::frame_fault(s, kind, 244))
+        Err(FrameError::OutOfRange)
     }
 }
 
-// The refusal number of a frame by itself, 0 for none.
-pub fn config_fault(s: &[u8]) -> u16
-    ensures { result ≡ config_refusal (read_config s.now) }
-{
-    let keeps = keeps_raised(s);
-    let kind = config_kind(keeps);
-    if wire::frame_fits(s, kind, 244) {
-        if wire::byte_below(s, 9, 2) { 0 } else { 4 }
-    } else {
-        wire::frame_fault(s, kind, 244)
-    }
-}
-
-// The Config of a frame that is not refused.
+// The Config of a frame that is accepted.
 pub fn config_values(s: &[u8]) -> Config
     ensures { result ≡ config_at s.now (keeps_raised s.now) }
 {
-    let keeps = keeps_raised(s);
-    config_at(s, keeps)
+    config_at(s, keeps_raised(s))
+}
+
+// The Config of a whole frame.
+#[tactic(auto, unfolding(crate::specs::ConfigFrame::read_config))]
+pub fn read_config(s: &[u8]) -> Result<Config, FrameError>
+    ensures { result ≡ read_config s.now }
+{
+    check_config_frame(s)?;
+    Ok(config_values(s))
 }
 
 fn put_freshness(s: &mut [u8], c: Config)
@@ -240,13 +228,13 @@ fn put_config(s: &mut [u8], c: Config)
     put_flight(s, c);
 }
 
-// 0 with the frame in the first 246 bytes, or 5 with nothing written where the slice has fewer.
-pub fn write_config(s: &mut [u8], c: Config) -> u16
-    ensures { (result ≡ room_fault (config_frame c) s.old) × (s.new ≡ frame_written (config_frame c) s.old) }
+// The frame in the first 246 bytes; nothing written where the slice has fewer.
+pub fn write_config(s: &mut [u8], c: Config) -> Result<(), FrameError>
+    ensures { (result ≡ check_room (config_frame c) s.old) × (s.new ≡ frame_written (config_frame c) s.old) }
 {
     if s.len() < 246 {
-        return 5;
+        return Err(FrameError::NoRoom);
     }
     put_config(s, c);
-    0
+    Ok(())
 }

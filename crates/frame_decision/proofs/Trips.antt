@@ -1,20 +1,20 @@
 -- Both round trips of a Decision frame. A NaN is one value here, so value, bytes, value says nothing of its bits; bytes, value, bytes gives the same bytes
 -- but for those of a NaN. Assumes nothing.
-use Rattle.std.specs.Prelude.{Some, None, unwrap_or}
+use Rattle.std.specs.Prelude.{Some, None, unwrap_or, Result, Ok, Err, ⊤}
+use Rattle.std.specs.Result.{result_and}
 use Prim.Native.Nat.{ℕ, ◌+◌}
-use mathlib.Core.Path.{◌≡◌, ◌∙◌, ap, refl, sym}
+use mathlib.Core.Path.{◌≡◌, ◌∙◌, ap, refl, sym, subst}
 use mathlib.Core.List.{List, [], ◌∷◌, ◌++◌}
-use mathlib.Core.Bool.{Bool, true, false, cond, ◌&&◌, false≢true}
-use native.Mathlib.Omega.{arith}
-use lib.Dec.{T, eqb}
+use mathlib.Core.Bool.{Bool, true, false, cond, ◌&&◌}
+use lib.Dec.{T}
 use lib.ListN.{length, get_or}
 use lib.Ieee.{binary32, fits, of_bits}
 use lib.Ieee.Bits.{of_bits-fits}
-use borrow.Author.Tests.{eqb-true, eq-eqb}
 use Rattle.types.specs.declared.Decision.{Decision}
 use Rattle.wire.specs.Fields.{Bytes, u8_at, number_at, u16_at, flag_at, u32_at, f32_at, byte_below, le8, le_flag, le_bytes, le16, le32, le_f32, elements_from}
 use Rattle.wire.specs.Cell.{NoNan, nan_rewritten}
-use Rattle.wire.specs.Frame.{frame_fault, frame_head}
+use Rattle.wire.specs.Frame.{frame_number, frame_fault, frame_head, check_frame}
+use Rattle.wire.specs.declared.FrameError.{FrameError}
 use Rattle.wire.proofs.Fields.{flag_back, flag_valid, f32_back, flag_bytes, f32_fits}
 use Rattle.wire.proofs.Head.{head_says, head_bytes}
 use Rattle.wire.proofs.Whole.{whole, each}
@@ -24,7 +24,7 @@ use Rattle.options.specs.Enums.{action_at, reason_at, le_action, le_reason}
 use Rattle.options.proofs.Options.{option_f32_back, option_f32_valid, option_f32_bytes}
 use Rattle.options.proofs.Enums.{action_back, reason_back, action_valid, reason_valid, action_bytes, reason_bytes}
 use Rattle.frame_decision.specs.Slots.{slot_at, slots_at, slot_valid, slots_valid, le_slot, le_slots}
-use Rattle.frame_decision.specs.DecisionFrame.{estimate_at, decision_at, decision_tests, decision_valid, accepted, refused_with, read_decision, le_estimate, decision_frame, decision_sorts, Typed}
+use Rattle.frame_decision.specs.DecisionFrame.{estimate_at, decision_at, decision_tests, decision_valid, read_decision, le_estimate, decision_frame, decision_sorts, Typed}
 use Rattle.frame_decision.proofs.Slots.{slot_back, slot_valid_lem, slots_bytes}
 
 -- ---- value, bytes, value
@@ -82,8 +82,8 @@ fields d t =
       disarm_eligible = flag_back d.disarm_eligible i;
     }
 
-head : (d : Decision) → frame_fault 4 93 (decision_frame d) ≡ 0
-unfolding frame_fault decision_frame frame_head le_action le_reason le_slots le_slot le_estimate le_option_f32 le_f32 le8 le16 le32 le_bytes le_flag u8_at number_at u16_at
+head : (d : Decision) → check_frame 4 93 (decision_frame d) ≡ Ok tt
+unfolding check_frame decision_frame frame_head le_action le_reason le_slots le_slot le_estimate le_option_f32 le_f32 le8 le16 le32 le_bytes le_flag u8_at number_at u16_at
 head d = refl
 
 slots_valid_lem : (d : Decision) → slots_valid (decision_frame d) 19 ≡ true
@@ -128,7 +128,7 @@ valid d =
     && option_f32_valid d.fence_dist_m i
     && flag_valid d.disarm_eligible i
 
-pub value_back : (d : Decision) → Typed d → read_decision (decision_frame d) ≡ accepted d
+pub value_back : (d : Decision) → Typed d → read_decision (decision_frame d) ≡ Ok d
 unfolding read_decision
 value_back d t = simp (head d, valid d, fields d t)
 
@@ -167,30 +167,23 @@ module _ (s : List ℕ) (b : Bytes s) (h : frame_fault 4 93 s ≡ 0) (v : decisi
       ++ (fence i ++ disarm i))))))))
 
 -- what an accepted frame says
-opened : (a b : Bool) (n : ℕ) (d : Decision) → (a ≡ false → n ≡ 0 → ⊥) → (cond a (cond b (accepted d) (refused_with 4)) (refused_with n)).refused ≡ 0 → (a ≡ true) × (b ≡ true)
-opened true true n d k e = (refl, refl)
-opened true false n d k e = absurd (omega arith)
-opened false b n d k e = absurd (k refl e)
+opened : (c : Result ⊤ FrameError) (v : Bool) (x d : Decision) → result_and c (cond v (Ok x) (Err FrameError.OutOfRange)) ≡ Ok d → (frame_number c ≡ 0) × ((v ≡ true) × (x ≡ d))
+opened (Ok u) true x d e = (refl, (refl, cc))
+opened (Ok u) false x d e = absurd (cc)
+opened (Err f) v x d e = absurd (cc)
 
-module _ (s : List ℕ) (e : (read_decision s).refused ≡ 0) where
-  accepts : (eqb (frame_fault 4 93 s) 0 ≡ true) × (decision_valid s ≡ true)
+module _ (s : List ℕ) (d : Decision) (e : read_decision s ≡ Ok d) where
+  accepts : (frame_fault 4 93 s ≡ 0) × ((decision_valid s ≡ true) × (decision_at s ≡ d))
   unfolding read_decision
-  accepts = opened (eqb (frame_fault 4 93 s) 0) (decision_valid s) (frame_fault 4 93 s) (decision_at s) (λ p z. false≢true (sym p ∙ eq-eqb (frame_fault 4 93 s) 0 z)) e
-
-  sound : frame_fault 4 93 s ≡ 0
-  sound = eqb-true (frame_fault 4 93 s) 0 accepts.0
-
-  pub read_is : (read_decision s).decision ≡ decision_at s
-  unfolding read_decision
-  read_is = simp (accepts.0, accepts.1)
+  accepts = opened (check_frame 4 93 s) (decision_valid s) (decision_at s) d e
 
   -- bytes, value, bytes: each NaN's bits become 7FC00000, the head is two fields of two bytes
-  pub bytes_back : Bytes s → decision_frame (read_decision s).decision ≡ nan_rewritten decision_sorts s 0
-  bytes_back b = ap decision_frame read_is ∙ cells s b sound accepts.1
+  pub bytes_back : Bytes s → decision_frame d ≡ nan_rewritten decision_sorts s 0
+  bytes_back b = ap decision_frame (sym accepts.1.1) ∙ cells s b accepts.0 accepts.1.0
 
   -- the very bytes, where no float is a NaN
-  pub bytes_same : Bytes s → NoNan decision_sorts s 0 → decision_frame (read_decision s).decision ≡ s
-  bytes_same b n = bytes_back b ∙ nan_free decision_sorts s 0 b n ∙ whole 0 95 s (head_says 4 93 s sound).1.1
+  pub bytes_same : Bytes s → NoNan decision_sorts s 0 → decision_frame d ≡ s
+  bytes_same b n = bytes_back b ∙ nan_free decision_sorts s 0 b n ∙ whole 0 95 s (head_says 4 93 s accepts.0).1.1
 
 -- what was read is within its types
 option_fits : (s : List ℕ) (i : ℕ) → T (fits binary32 (unwrap_or (option_f32_at s i) (of_bits binary32 0)))
@@ -214,5 +207,5 @@ at_typed s =
       fence = option_fits s 89;
     }
 
-pub read_typed : (s : List ℕ) → (read_decision s).refused ≡ 0 → Typed (read_decision s).decision
-read_typed s e = rw (read_is s e) (at_typed s)
+pub read_typed : (s : List ℕ) (d : Decision) → read_decision s ≡ Ok d → Typed d
+read_typed s d e = subst Typed (accepts s d e).1.1 (at_typed s)

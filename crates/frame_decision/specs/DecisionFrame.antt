@@ -1,18 +1,16 @@
 -- Kind 4, Decision: "Body fields stand in the Rust's declared order". Assumes nothing.
-use Rattle.std.specs.Prelude.{ℕ, ◌≡◌, List, [], ◌∷◌, ◌++◌, Bool, false, cond, T, eqb, length, replicate, None, unwrap_or}
+use Rattle.std.specs.Prelude.{ℕ, ◌≡◌, List, [], ◌∷◌, ◌++◌, Bool, cond, T, length, replicate, unwrap_or, Result, Ok, Err}
+use Rattle.std.specs.Result.{result_and}
 use Rattle.std.specs.Float.{binary32}
 use Rattle.std.specs.Float.Ieee.{fits, of_bits}
-use Rattle.types.specs.declared.Action.{Action}
-use Rattle.types.specs.declared.Reason.{Reason}
 use Rattle.types.specs.declared.EnergyEstimate.{EnergyEstimate}
 use Rattle.types.specs.declared.Decision.{Decision}
-use Rattle.types.specs.ActiveSet.{empty_set}
 use Rattle.wire.specs.Fields.{flag_at, f32_at, byte_below, le_flag, le_f32}
 use Rattle.wire.specs.Cell.{Sort, U8, Flag, U16, F32}
-use Rattle.wire.specs.Frame.{frame_fault, frame_head, all_true}
+use Rattle.wire.specs.Frame.{check_frame, frame_head, all_true}
 use Rattle.options.specs.Options.{valid_option, option_f32_at, le_option_f32}
 use Rattle.options.specs.Enums.{action_at, reason_at, le_action, le_reason}
-use Rattle.frame_decision.specs.declared.DecisionRead.{DecisionRead}
+use Rattle.wire.specs.declared.FrameError.{FrameError}
 use Rattle.frame_decision.specs.Slots.{slots_at, slots_valid, le_slots}
 
 -- the fields in their places, after the four bytes of the head
@@ -59,41 +57,9 @@ decision_tests s =
 unfoldable pub decision_valid : List ℕ → Bool
 decision_valid s = all_true (slots_valid s 19) (decision_tests s)
 
--- what stands beside a refusal: nothing asked for, every number +0
-unfoldable pub blank_decision : Decision
-blank_decision =
-    record {
-      action = Action.Nominal;
-      reason = Reason.None;
-      requested = Action.Nominal;
-      active = empty_set;
-      position_valid = false;
-      clock_fault = false;
-      energy =
-          record {
-            rtl_wh = of_bits binary32 0;
-            land_wh = of_bits binary32 0;
-            reserve_wh = of_bits binary32 0;
-            remaining_wh = None;
-            margin_wh = None;
-            insufficient_for_landing = false;
-          };
-      fence_dist_m = None;
-      disarm_eligible = false;
-    }
-
-abbrev pub accepted : Decision → DecisionRead
-accepted d = record { refused = 0; decision = d }
-
-abbrev pub refused_with : ℕ → DecisionRead
-refused_with n = record { refused = n; decision = blank_decision }
-
--- the frame read: the head's refusal, 4 for a field out of range, or the value
-unfoldable pub read_decision : List ℕ → DecisionRead
-read_decision s =
-    cond (eqb (frame_fault 4 93 s) 0)
-    (cond (decision_valid s) (accepted (decision_at s)) (refused_with 4))
-    (refused_with (frame_fault 4 93 s))
+-- the frame read: what the head earns, OutOfRange for a field that is not valid, or the value
+unfoldable pub read_decision : List ℕ → Result Decision FrameError
+read_decision s = result_and (check_frame 4 93 s) (cond (decision_valid s) (Ok (decision_at s)) (Err FrameError.OutOfRange))
 
 unfoldable pub le_estimate : EnergyEstimate → List ℕ
 le_estimate e =

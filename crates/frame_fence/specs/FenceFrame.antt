@@ -1,16 +1,18 @@
 -- Kind 2: "fence: corner count (1 byte), min altitude, max altitude, corners north, east", 9 + 8 × count bytes. Document 02, L5: "Fences come as
 -- kind 8 too, with kind 2's body and one more rule". Assumes nothing.
-use Rattle.std.specs.Prelude.{ℕ, zero, suc, ◌+◌, ◌*◌, ◌-◌, min, List, [], ◌∷◌, ◌++◌, Bool, false, cond, eqb, ltb, length, take, replicate, Float, Result, Ok, Err, ⊤}
+use Rattle.std.specs.Prelude.{ℕ, zero, suc, ◌+◌, ◌*◌, ◌-◌, min, List, [], ◌∷◌, ◌++◌, Bool, cond, eqb, ltb, length, take, replicate, Float, Result, Ok, Err, ⊤}
 use Rattle.wire.specs.Fields.{u8_at, u16_at, f32_at}
 use Rattle.wire.specs.Cell.{Cell, u8, f32, bytes_of}
-use Rattle.wire.specs.Frame.{frame_fault, frame_head, room_fault, frame_written}
-use Rattle.float32.specs.Binary32.{zero_f}
+use Rattle.wire.specs.declared.FrameError.{FrameError}
+use Rattle.wire.specs.Frame.{frame_error_number, frame_number, check_frame, frame_head, check_room, frame_written}
 use Rattle.types.specs.declared.Point2.{Point2}
-use Rattle.geometry.specs.declared.GeofenceResult.{GeofenceResult}
-use Rattle.std.specs.Result.{result_and}
+use Rattle.geometry.specs.declared.ConvexPolygon.{ConvexPolygon}
+use Rattle.geometry.specs.declared.Geofence.{Geofence}
+use Rattle.std.specs.Result.{result_and, result_map_both}
 use Rattle.corners.specs.Acceptance.{fence_error_number}
 use Rattle.geometry.specs.Polygon.{zero_point, polygon_new, geofence_new}
 use Rattle.frame_fence.specs.declared.FenceRead.{FenceRead}
+use Rattle.frame_fence.specs.declared.WriteError.{WriteError}
 use Rattle.corners.specs.declared.FenceError.{FenceError}
 
 -- the kind of a fence whose corners have to go round once, and of any other
@@ -34,40 +36,41 @@ unfoldable pub asks_once_round : List ℕ → Bool
 asks_once_round s = eqb (u16_at s 2) 8
 
 -- the length due is that of the count sent. Without a count byte it is none that the frame can have: "A kind 2 body without its count byte is 3."
-unfoldable pub fence_fault : List ℕ → ℕ
-fence_fault s = frame_fault (fence_kind (asks_once_round s)) (11 + 8 * u8_at s 4) s
+unfoldable pub check_fence : List ℕ → Result ⊤ FrameError
+check_fence s = check_frame (fence_kind (asks_once_round s)) (11 + 8 * u8_at s 4) s
+
+-- its number, 0 for none
+abbrev pub fence_fault : List ℕ → ℕ
+fence_fault s = frame_number (check_fence s)
 
 -- "the corners as sent, at most 16"
 unfoldable pub corners_sent : List ℕ → List Point2
 corners_sent s = corners_at s 13 (min (u8_at s 4) 16)
 
--- a refusal: its number, and zeros
-unfoldable pub refused_fence : ℕ → FenceRead
-refused_fence n = record { refused = n; once_round = false; count = 0; min_alt_m = zero_f; max_alt_m = zero_f; corners = replicate 16 zero_point }
-
 -- what an accepted frame gives: its kind, the count, the altitudes and the corners, none of them judged yet
 abbrev pub fence_sent : Bool → ℕ → Float → Float → List Point2 → FenceRead
-fence_sent once n min_alt max_alt l =
-    record { refused = 0; once_round = once; count = n; min_alt_m = min_alt; max_alt_m = max_alt; corners = corner_array l }
+fence_sent once n min_alt max_alt l = record { once_round = once; count = n; min_alt_m = min_alt; max_alt_m = max_alt; corners = corner_array l }
 
--- the frame read: the refusal, or 0 with the fence as sent
-unfoldable pub read_fence : List ℕ → FenceRead
-read_fence s = cond (eqb (fence_fault s) 0) (fence_sent (asks_once_round s) (u8_at s 4) (f32_at s 5) (f32_at s 9) (corners_sent s)) (refused_fence (fence_fault s))
+-- the frame read: the head's refusal, or the fence as sent
+unfoldable pub read_fence : List ℕ → Result FenceRead FrameError
+read_fence s = result_and (check_fence s) (Ok (fence_sent (asks_once_round s) (u8_at s 4) (f32_at s 5) (f32_at s 9) (corners_sent s)))
+
+-- the altitudes of a polygon that was accepted
+abbrev pub with_altitudes : Float → Float → Result ConvexPolygon FenceError → Result Geofence FenceError
+with_altitudes min_alt max_alt (Ok poly) = geofence_new poly min_alt max_alt
+with_altitudes min_alt max_alt (Err e) = Err e
 
 -- the fence rules: those of the polygon, with the count as sent, the one more for kind 8, and last the altitudes; the first error decides
-unfoldable pub fence_rules : Bool → ℕ → Float → Float → List Point2 → GeofenceResult
-fence_rules once n min_alt max_alt l =
-    let made = polygon_new once n l in
-    let fenced = geofence_new made.poly min_alt max_alt in
-    record { result = result_and made.result fenced.result; fence = fenced.fence }
+unfoldable pub fence_rules : Bool → ℕ → Float → Float → List Point2 → Result Geofence FenceError
+fence_rules once n min_alt max_alt l = with_altitudes min_alt max_alt (polygon_new once n l)
 
 -- the rules on what was read
-unfoldable pub fence_of : FenceRead → GeofenceResult
+unfoldable pub fence_of : FenceRead → Result Geofence FenceError
 fence_of r = fence_rules r.once_round r.count r.min_alt_m r.max_alt_m (take r.count r.corners)
 
 -- the number of what the rules answer; 0 for none
-abbrev pub fence_number : Result ⊤ FenceError → ℕ
-fence_number (Ok tt) = 0
+abbrev pub fence_number : {A : Type 0} → Result A FenceError → ℕ
+fence_number (Ok x) = 0
 fence_number (Err e) = fence_error_number e
 
 -- the body as cells
@@ -85,9 +88,23 @@ fence_cells n min_alt max_alt l = u8 n ∷ f32 min_alt ∷ f32 max_alt ∷ corne
 unfoldable pub fence_frame : Bool → ℕ → Float → Float → List Point2 → List ℕ
 fence_frame once n min_alt max_alt l = frame_head (fence_kind once) (11 + 8 * n) ++ bytes_of (fence_cells n min_alt max_alt (take n l))
 
--- An array of sixteen corners makes no frame of more: then the number is 11, that of TooManyVertices, and nothing is written.
-unfoldable pub write_fault : ℕ → List ℕ → List ℕ → ℕ
-write_fault n f s = cond (ltb 16 n) 11 (room_fault f s)
+-- the frame of a fence
+abbrev pub frame_of : FenceRead → List ℕ
+frame_of r = fence_frame r.once_round r.count r.min_alt_m r.max_alt_m r.corners
+
+-- the error of a fence's frame that is not written, and its number
+abbrev pub write_error_number : WriteError → ℕ
+write_error_number (WriteError.Fence e) = fence_error_number e
+write_error_number (WriteError.Frame e) = frame_error_number e
+
+abbrev pub write_number : Result ⊤ WriteError → ℕ
+write_number (Ok tt) = 0
+write_number (Err e) = write_error_number e
+
+-- An array of sixteen corners makes no frame of more: then the error is TooManyVertices, and nothing is written.
+unfoldable pub check_write : ℕ → List ℕ → List ℕ → Result ⊤ WriteError
+check_write n f s =
+    cond (ltb 16 n) (Err (WriteError.Fence FenceError.TooManyVertices)) (result_map_both (λ x. x) WriteError.Frame (check_room f s))
 
 unfoldable pub fence_written : ℕ → List ℕ → List ℕ → List ℕ
 fence_written n f s = cond (ltb 16 n) s (frame_written f s)

@@ -1,25 +1,67 @@
 // Kinds 2 and 8: a fence in its frame, read as it was sent and written; and the fence rules applied to what was read.
-#![tactic(auto)]
+#![tactic(auto, unfolding(crate::specs::FenceFrame::asks_once_round, crate::specs::FenceFrame::corners_sent, crate::specs::FenceFrame::read_fence, crate::specs::FenceFrame::fence_rules, crate::specs::FenceFrame::fence_of))]
 
 ghost use Rattle.std.specs.Prelude.{◌≡◌, ◌+◌, ◌*◌, ◌<◌, ◌≤◌, min, length, take};
+ghost use Rattle.std.specs.Result.{IfOk};
 ghost use Rattle.std.proofs.lemmas.List.Edits.{sets};
+ghost use Rattle.wire.specs.Fields.{u8_at};
 ghost use Rattle.wire.specs.Cell.{bytes_of};
-ghost use Rattle.frame_fence.specs.FenceFrame.{fence_kind, point_at, corners_at, corner_array, asks_once_round, refused_fence, read_fence, fence_of, fence_number};
-ghost use Rattle.frame_fence.specs.FenceFrame.{point_cells, corner_cells, fence_frame, write_fault, fence_written};
+ghost use Rattle.frame_fence.specs.FenceFrame.{fence_kind, point_at, corners_at, corner_array, asks_once_round, check_fence, read_fence, fence_of};
+ghost use Rattle.frame_fence.specs.FenceFrame.{point_cells, corner_cells, write_error_number, frame_of, check_write, fence_written};
 
 use corners::FenceError;
-use geometry::{ConvexPolygon, Geofence, GeofenceResult};
+use geometry::{ConvexPolygon, Geofence};
 use types::Point2;
+use wire::FrameError;
 
-// 0 and the fence as sent, its first sixteen corners at most; or the number of the refusal, and zeros. `once_round` is that of kind 8.
+// A fence as sent, its first sixteen corners at most, in place, since there is no heap. `once_round` is that of kind 8: it is
+// data of the frame, and no choice of a caller.
 #[derive(Clone, Copy)]
 pub struct FenceRead {
-    pub refused: u16,
     pub once_round: bool,
     pub count: u8,
     pub min_alt_m: f32,
     pub max_alt_m: f32,
     pub corners: [Point2; 16],
+}
+
+// Why a fence's frame is not written: a count above sixteen, or no room.
+#[derive(Clone, Copy)]
+pub enum WriteError {
+    Fence(FenceError),
+    Frame(FrameError),
+}
+
+impl WriteError {
+    // The number of the refusal: what a C host is answered.
+    pub fn number(self) -> u16
+        ensures { result ≡ write_error_number self }
+    {
+        match self {
+            WriteError::Fence(e) => e.number(),
+            WriteError::Frame(e) => e.number(),
+        }
+    }
+}
+
+impl From<FenceError> for WriteError {
+    ghost use Rattle.frame_fence.specs.declared.WriteError.{WriteError};
+
+    ghost from_gives = { λ e r. r ≡ WriteError.Fence e };
+
+    fn from(e: FenceError) -> WriteError {
+        WriteError::Fence(e)
+    }
+}
+
+impl From<FrameError> for WriteError {
+    ghost use Rattle.frame_fence.specs.declared.WriteError.{WriteError};
+
+    ghost from_gives = { λ e r. r ≡ WriteError.Frame e };
+
+    fn from(e: FrameError) -> WriteError {
+        WriteError::Frame(e)
+    }
 }
 
 // A part of eight bytes: its length is known, so that no read of it is tested.
@@ -40,13 +82,9 @@ pub fn corners_at(s: &[u8], at: usize, n: usize) -> [Point2; 16]
     requires { (n ≤ 16) × (at + 8 * n ≤ length s.now) }
     ensures { result ≡ corner_array (corners_at s.now at n) }
 {
-    let zero = Point2 { n: 0.0, e: 0.0 };
-    let mut corners = [zero; 16];
-    let mut i: usize = 0;
-    while i < n {
-        let p = point_at(s, at + 8 * i);
-        corners[i] = p;
-        i += 1;
+    let mut corners = [Point2 { n: 0.0, e: 0.0 }; 16];
+    for i in 0..n {
+        corners[i] = point_at(s, at + 8 * i);
     }
     corners
 }
@@ -54,7 +92,7 @@ pub fn corners_at(s: &[u8], at: usize, n: usize) -> [Point2; 16]
 fn capped(n: u8) -> usize
     ensures { result ≡ min n 16 }
 {
-    if n < 16 { n as usize } else { 16 }
+    usize::from(n).min(16)
 }
 
 // A kind 8 asks one rule more of the corners than a kind 2.
@@ -74,78 +112,47 @@ fn asks_once_round(s: &[u8]) -> bool
 fn length_due(count: u8) -> u16
     ensures { result ≡ 11 + 8 * count }
 {
-    11 + 8 * (count as u16)
+    11 + 8 * u16::from(count)
 }
 
-pub fn refused_fence(n: u16) -> FenceRead
-    ensures { result ≡ refused_fence n }
+#[tactic(auto, unfolding(crate::specs::FenceFrame::check_fence))]
+fn check_fence(s: &[u8]) -> Result<(), FrameError>
+    ensures value { result ≡ check_fence s.now }
+    ensures len { IfOk result (λ _. length s.now ≡ 13 + 8 * u8_at s.now 4) }
 {
-    let zero = Point2 { n: 0.0, e: 0.0 };
-    let corners = [zero; 16];
-    FenceRead {
-        refused: n,
-        once_round: false,
-        count: 0,
-        min_alt_m: 0.0,
-        max_alt_m: 0.0,
-        corners: corners,
-    }
+    wire::check_frame(
+        s,
+        fence_kind(asks_once_round(s)),
+        length_due(wire::u8_at(s, 4)),
+    )
 }
 
-// The fence of a whole frame of kind 2 or 8, before the fence rules, or the number of the refusal.
-pub fn read_fence(s: &[u8]) -> FenceRead
+// The fence of a whole frame of kind 2 or 8, before the fence rules.
+pub fn read_fence(s: &[u8]) -> Result<FenceRead, FrameError>
     ensures { result ≡ read_fence s.now }
 {
+    check_fence(s)?;
     let count = wire::u8_at(s, 4);
-    let once_round = asks_once_round(s);
-    let fault = wire::frame_fault(s, fence_kind(once_round), length_due(count));
-    if fault == 0 {
-        let min_alt_m = wire::f32_at(s, 5);
-        let max_alt_m = wire::f32_at(s, 9);
-        let corners = corners_at(s, 13, capped(count));
-        FenceRead {
-            refused: 0,
-            once_round: once_round,
-            count: count,
-            min_alt_m: min_alt_m,
-            max_alt_m: max_alt_m,
-            corners: corners,
-        }
-    } else {
-        refused_fence(fault)
-    }
+    Ok(FenceRead {
+        once_round: asks_once_round(s),
+        count,
+        min_alt_m: wire::f32_at(s, 5),
+        max_alt_m: wire::f32_at(s, 9),
+        corners: corners_at(s, 13, capped(count)),
+    })
 }
 
 // The fence rules: the polygon's, then the altitudes'. A count above sixteen is refused by the first.
-pub fn fence_of(r: FenceRead) -> GeofenceResult
-    ensures { result ≡ fence_of r }
+#[tactic(auto, using(crate::proofs::Rules::new_many), unfolding(crate::specs::FenceFrame::fence_rules, crate::specs::FenceFrame::fence_of))]
+pub fn fence_of(r: &FenceRead) -> Result<Geofence, FenceError>
+    ensures { result ≡ fence_of r.now }
 {
-    let corners = r.corners;
-    let made = ConvexPolygon::new_by(corners, r.count as usize, r.once_round);
-    let poly = made.poly;
-    let fenced = Geofence::new(poly, r.min_alt_m, r.max_alt_m);
-    let first = made.result;
-    let second = fenced.result;
-    let fence = fenced.fence;
-    GeofenceResult {
-        result: first.and(second),
-        fence: fence,
+    let n = usize::from(r.count);
+    if n > 16 {
+        return Err(FenceError::TooManyVertices);
     }
-}
-
-pub fn fence_number(r: Result<(), FenceError>) -> u16
-    ensures { result ≡ fence_number r }
-{
-    match r {
-        Ok(()) => 0,
-        Err(e) => e.number(),
-    }
-}
-
-fn widened(n: u8) -> usize
-    ensures { result ≡ n }
-{
-    n as usize
+    let poly = ConvexPolygon::new_by(&r.corners[..n], r.once_round)?;
+    Geofence::new(poly, r.min_alt_m, r.max_alt_m)
 }
 
 fn put_point(s: &mut [u8], at: usize, p: Point2)
@@ -156,54 +163,37 @@ fn put_point(s: &mut [u8], at: usize, p: Point2)
     wire::put_f32(s, at + 4, p.e);
 }
 
-fn put_corners(s: &mut [u8], n: usize, corners: [Point2; 16])
+fn put_corners(s: &mut [u8], n: usize, corners: &[Point2; 16])
     requires { n ≤ 16 }
-    ensures { s.new ≡ sets s.old 13 (bytes_of (corner_cells (take n corners))) }
+    ensures { s.new ≡ sets s.old 13 (bytes_of (corner_cells (take n corners.now))) }
 {
-    let mut i: usize = 0;
-    while i < n {
-        let p = corners[i];
-        put_point(s, 13 + 8 * i, p);
-        i += 1;
+    for i in 0..n {
+        put_point(s, 13 + 8 * i, corners[i]);
     }
 }
 
-fn put_fence(
-    s: &mut [u8],
-    once_round: bool,
-    count: u8,
-    min_alt_m: f32,
-    max_alt_m: f32,
-    corners: [Point2; 16],
-)
-    requires { count ≤ 16 }
-    ensures { s.new ≡ sets s.old 0 (fence_frame once_round count min_alt_m max_alt_m corners) }
+fn put_fence(s: &mut [u8], r: &FenceRead)
+    requires { r.now.count ≤ 16 }
+    ensures { s.new ≡ sets s.old 0 (frame_of r.now) }
 {
-    wire::put_head(s, fence_kind(once_round), length_due(count));
-    wire::put_u8(s, 4, count);
-    wire::put_f32(s, 5, min_alt_m);
-    wire::put_f32(s, 9, max_alt_m);
-    put_corners(s, widened(count), corners);
+    wire::put_head(s, fence_kind(r.once_round), length_due(r.count));
+    wire::put_u8(s, 4, r.count);
+    wire::put_f32(s, 5, r.min_alt_m);
+    wire::put_f32(s, 9, r.max_alt_m);
+    put_corners(s, usize::from(r.count), &r.corners);
 }
 
-// 0 with the frame, of kind 8 where `once_round`, of the first `count` corners in the first 13 + 8 × count bytes; 11 for a count above sixteen, else 5 where
-// the slice has fewer bytes, with nothing written.
-pub fn write_fence(
-    s: &mut [u8],
-    once_round: bool,
-    count: u8,
-    min_alt_m: f32,
-    max_alt_m: f32,
-    corners: [Point2; 16],
-) -> u16
-    ensures { (result ≡ write_fault count (fence_frame once_round count min_alt_m max_alt_m corners) s.old) × (s.new ≡ fence_written count (fence_frame once_round count min_alt_m max_alt_m corners) s.old) }
+// The frame, of kind 8 where `once_round`, of the first `count` corners in the first 13 + 8 × count bytes. Where a count is above sixteen or the slice has
+// fewer bytes nothing is written.
+pub fn write_fence(s: &mut [u8], r: &FenceRead) -> Result<(), WriteError>
+    ensures { (result ≡ check_write r.now.count (frame_of r.now) s.old) × (s.new ≡ fence_written r.now.count (frame_of r.now) s.old) }
 {
-    if count > 16 {
-        return 11;
+    if r.count > 16 {
+        return Err(WriteError::Fence(FenceError::TooManyVertices));
     }
-    if s.len() < 13 + 8 * widened(count) {
-        return 5;
+    if s.len() < 13 + 8 * usize::from(r.count) {
+        return Err(WriteError::Frame(FrameError::NoRoom));
     }
-    put_fence(s, once_round, count, min_alt_m, max_alt_m, corners);
-    0
+    put_fence(s, r);
+    Ok(())
 }

@@ -1,32 +1,20 @@
 // A fence that is written and read again is the same: the round trip as code.
 #![tactic(auto)]
 
-ghost use Rattle.std.specs.Prelude.{◌≡◌, ◌+◌, ◌*◌, cond, ltb, take};
-ghost use Rattle.frame_fence.specs.FenceFrame.{refused_fence, fence_sent};
+ghost use Rattle.std.specs.Prelude.{◌≡◌, Ok, Err, cond, ltb, take};
+ghost use Rattle.frame_fence.specs.FenceFrame.{fence_sent};
 
-use frame_fence::FenceRead;
-use types::Point2;
+use corners::FenceError;
+use frame_fence::{FenceRead, WriteError};
 
-fn room(count: u8) -> usize
-    ensures { result ≡ 13 + 8 * count }
+pub fn written_and_read(r: FenceRead) -> Result<FenceRead, WriteError>
+    ensures { result ≡ cond (ltb 16 r.count) (Err (WriteError.Fence FenceError.TooManyVertices)) (Ok (fence_sent r.once_round r.count r.min_alt_m r.max_alt_m (take r.count r.corners))) }
 {
-    13 + 8 * (count as usize)
-}
-
-pub fn written_and_read(
-    once_round: bool,
-    count: u8,
-    min_alt_m: f32,
-    max_alt_m: f32,
-    corners: [Point2; 16],
-) -> FenceRead
-    ensures { result ≡ cond (ltb 16 count) (refused_fence 11) (fence_sent once_round count min_alt_m max_alt_m (take count corners)) }
-{
-    if count > 16 {
-        return frame_fence::refused_fence(11);
+    if r.count > 16 {
+        return Err(WriteError::Fence(FenceError::TooManyVertices));
     }
     let mut b = [0u8; 141];
-    frame_fence::write_fence(&mut b, once_round, count, min_alt_m, max_alt_m, corners);
-    let n = room(count);
-    frame_fence::read_fence(&b[..n])
+    frame_fence::write_fence(&mut b, &r)?;
+    let n = 13 + 8 * usize::from(r.count);
+    Ok(frame_fence::read_fence(&b[..n])?)
 }

@@ -1,24 +1,25 @@
 -- Both round trips of a Decision frame with its side, from those of kind 4. Assumes nothing.
 use Prim.Native.Nat.{ℕ, zero, suc, ◌≤◌}
 use mathlib.Core.List.{List, [], ◌∷◌, ◌++◌, append_assoc}
-use mathlib.Core.Bool.{Bool, true, false, cond}
+use Rattle.std.specs.Prelude.{Result, Ok, Err, ⊤}
+use Rattle.std.specs.Result.{result_and}
 use mathlib.Core.Path.{◌≡◌, ◌∙◌, ap, refl, sym}
 use native.Mathlib.Omega.{arith}
-use borrow.Author.Tests.{eqb-true, eqb-false}
-use lib.Dec.{eqb, lit<}
+use lib.Dec.{lit<}
 use lib.ListN.{length, take, drop, get_or, length-append, length-drop, take-append-drop}
 use lib.Seq.{take-take, take_at, drop_at, drop-cons, length-take-le}
 use Rattle.types.specs.declared.Decision.{Decision}
 use Rattle.wire.specs.Fields.{Bytes, u8_at, number_at, u16_at, le8, le_flag, le_bytes, le16, le32, le_f32, bytes_from}
 use Rattle.wire.specs.Cell.{NoNan, nan_rewritten}
-use Rattle.wire.specs.Frame.{frame_fault, frame_head}
+use Rattle.wire.specs.Frame.{frame_number, frame_fault, frame_head, check_frame}
+use Rattle.wire.specs.declared.FrameError.{FrameError}
 use Rattle.wire.proofs.Head.{head_says, head_bytes}
 use Rattle.options.specs.Options.{le_option_f32}
 use Rattle.options.specs.Enums.{le_action, le_reason}
-use Rattle.frame_decision.specs.declared.DecisionRead.{DecisionRead}
 use Rattle.frame_decision.specs.Slots.{le_slot, le_slots}
-use Rattle.frame_decision.specs.DecisionFrame.{refused_with, read_decision, le_estimate, decision_frame, decision_sorts, Typed}
+use Rattle.frame_decision.specs.DecisionFrame.{read_decision, le_estimate, decision_frame, decision_sorts, Typed}
 use Rattle.frame_decision.proofs.Trips as kind4
+use Rattle.frame_side.specs.declared.SideDecision.{SideDecision}
 use Rattle.frame_side.specs.SideFrame.{with_side, without_side, beside, side_frame, read_side}
 use Rattle.frame_side.proofs.Splice.{four}
 
@@ -26,12 +27,12 @@ use Rattle.frame_side.proofs.Splice.{four}
 
 -- the head is sound, the byte that was put in stands at 94, and without it the frame is kind 4's
 record PutIn (d : Decision) (side : ℕ) : Type 0 where
-  head : frame_fault 6 94 (side_frame d side) ≡ 0
+  head : check_frame 6 94 (side_frame d side) ≡ Ok tt
   byte : u8_at (side_frame d side) 94 ≡ side
   without : without_side (side_frame d side) ≡ decision_frame d
 
 put_in : (d : Decision) (side : ℕ) → PutIn d side
-unfolding side_frame frame_fault decision_frame frame_head le_action le_reason le_slots le_slot le_estimate le_option_f32 le_f32 le8 le16 le32 le_bytes le_flag u8_at number_at u16_at
+unfolding side_frame check_frame decision_frame frame_head le_action le_reason le_slots le_slot le_estimate le_option_f32 le_f32 le8 le16 le32 le_bytes le_flag u8_at number_at u16_at
 put_in d side = record { head = refl; byte = refl; without = refl }
 
 reads_as : (d : Decision) (side : ℕ) → read_side (side_frame d side) ≡ beside (read_decision (decision_frame d)) side
@@ -39,8 +40,8 @@ unfolding read_side
 reads_as d side = let p = put_in d side in rw (p.head, p.byte, p.without)
 
 -- for each Decision and each side
-pub value_back : (d : Decision) (side : ℕ) → Typed d → read_side (side_frame d side) ≡ record { refused = 0; decision = d; side = side }
-value_back d side t = reads_as d side ∙ ap (λ (r : DecisionRead). beside r side) (kind4.value_back d t)
+pub value_back : (d : Decision) (side : ℕ) → Typed d → read_side (side_frame d side) ≡ Ok (record { decision = d; side = side })
+value_back d side t = reads_as d side ∙ ap (λ (r : Result Decision FrameError). beside r side) (kind4.value_back d t)
 
 -- ---- bytes, value, bytes
 
@@ -100,33 +101,28 @@ restored s n h =
     ∙ ap (λ (x : List ℕ). x ++ drop 94 s) (take-append-drop 4 (take 94 s))
     ∙ take-append-drop 94 s
 
-module _ (s : List ℕ) (e : (read_side s).refused ≡ 0) where
-  -- what an accepted frame says
-  opened : (eqb (frame_fault 6 94 s) 0 ≡ true) × ((read_decision (without_side s)).refused ≡ 0)
-  unfolding read_side
-  opened = at (eqb (frame_fault 6 94 s) 0) refl e
-    where
-      at : (b : Bool) → eqb (frame_fault 6 94 s) 0 ≡ b → (cond b (read_decision (without_side s)) (refused_with (frame_fault 6 94 s))).refused ≡ 0 → (b ≡ true) × ((read_decision (without_side s)).refused ≡ 0)
-      at true h z = (refl, z)
-      at false h z = absurd (eqb-false (frame_fault 6 94 s) 0 h z)
+-- what an accepted frame says
+opened : (c : Result ⊤ FrameError) (r : Result Decision FrameError) (side : ℕ) (v : SideDecision) → result_and c (beside r side) ≡ Ok v → (frame_number c ≡ 0) × ((r ≡ Ok v.decision) × (side ≡ v.side))
+opened (Ok u) (Ok d) side v e =
+    let k : ◌≡◌ {A = SideDecision} (record { decision = d; side = side }) v = cc in
+    (refl, (ap (λ (w : SideDecision). Ok w.decision) k, ap (λ (w : SideDecision). w.side) k))
+opened (Ok u) (Err f) side v e = absurd (cc)
+opened (Err f) r side v e = absurd (cc)
 
-  sound : frame_fault 6 94 s ≡ 0
-  sound = eqb-true (frame_fault 6 94 s) 0 opened.0
-
-  pub read_is : read_side s ≡ record { refused = 0; decision = (read_decision (without_side s)).decision; side = u8_at s 94 }
+module _ (s : List ℕ) (v : SideDecision) (e : read_side s ≡ Ok v) where
+  accepts : (frame_fault 6 94 s ≡ 0) × ((read_decision (without_side s) ≡ Ok v.decision) × (u8_at s 94 ≡ v.side))
   unfolding read_side
-  read_is = rw opened.0 (λ i. record { refused = opened.1 i; decision = (read_decision (without_side s)).decision; side = cond (eqb (opened.1 i) 0) (u8_at s 94) 0 })
+  accepts = opened (check_frame 6 94 s) (read_decision (without_side s)) (u8_at s 94) v e
 
   -- kind 4's bytes, each NaN's bits become 7FC00000, with the side put in again
-  pub bytes_back : Bytes s → side_frame (read_side s).decision (read_side s).side ≡ with_side (nan_rewritten decision_sorts (without_side s) 0) (u8_at s 94)
+  pub bytes_back : Bytes s → side_frame v.decision v.side ≡ with_side (nan_rewritten decision_sorts (without_side s) 0) (u8_at s 94)
   unfolding side_frame
-  bytes_back b = (λ i. with_side (decision_frame (read_is i).decision) (read_is i).side) ∙ ap (λ (f : List ℕ). with_side f (u8_at s 94)) (kind4.bytes_back (without_side s) opened.1 (bytes_without s b))
+  bytes_back b = λ i. with_side (kind4.bytes_back (without_side s) v.decision accepts.1.0 (bytes_without s b) i) (sym accepts.1.1 i)
 
   -- the very bytes, where no float is a NaN
-  pub bytes_same : Bytes s → NoNan decision_sorts (without_side s) 0 → side_frame (read_side s).decision (read_side s).side ≡ s
+  pub bytes_same : Bytes s → NoNan decision_sorts (without_side s) 0 → side_frame v.decision v.side ≡ s
   unfolding side_frame
   bytes_same b n =
-      let long = (head_says 6 94 s sound).1.1 in
-      (λ i. with_side (decision_frame (read_is i).decision) (read_is i).side)
-      ∙ ap (λ (f : List ℕ). with_side f (u8_at s 94)) (kind4.bytes_same (without_side s) opened.1 (bytes_without s b) n)
-      ∙ restored s long (head_bytes 6 94 s b sound ∙ first_four s (omega arith))
+      let long = (head_says 6 94 s accepts.0).1.1 in
+      (λ i. with_side (kind4.bytes_same (without_side s) v.decision accepts.1.0 (bytes_without s b) n i) (sym accepts.1.1 i))
+      ∙ restored s long (head_bytes 6 94 s b accepts.0 ∙ first_four s (omega arith))

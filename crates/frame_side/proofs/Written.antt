@@ -15,11 +15,16 @@ use Rattle.frame_side.specs.SideFrame.{side_frame}
 use Rattle.frame_side.proofs.Size.{size, eligible}
 use Rattle.frame_side.proofs.Splice.{put_in}
 
-pub side_written : (d : Decision) (side : ℕ) (s : List ℕ) → 96 ≤ length s
-    → sets (sets (sets (frame_written (decision_frame d) s) 0 (frame_head 6 94)) 94 (le8 side)) 95 (le_flag d.disarm_eligible) ≡ frame_written (side_frame d side) s
+pub side_put : (d : Decision) (side : ℕ) (s : List ℕ) → 96 ≤ length s
+    → sets (sets (sets (sets s 0 (decision_frame d)) 0 (frame_head 6 94)) 94 (le8 side)) 95 (le_flag d.disarm_eligible) ≡ frame_written (side_frame d side) s
 unfolding side_frame
-side_written d side s h =
-    let w = room (decision_frame d) s 95 (decision_size d) (omega arith) in
-    (λ i. sets (sets (sets (sym w.1 i) 0 (frame_head 6 94)) 94 (le8 side)) 95 (eligible d i))
+side_put d side s h =
+    (λ i. sets (sets (sets (sets s 0 (decision_frame d)) 0 (frame_head 6 94)) 94 (le8 side)) 95 (eligible d i))
     ∙ put_in (decision_frame d) (decision_size d) s side
     ∙ (room (side_frame d side) s 96 (size d side) (omega arith)).1
+
+pub side_written : (d : Decision) (side : ℕ) (s : List ℕ) → 96 ≤ length s
+    → sets (sets (sets (frame_written (decision_frame d) s) 0 (frame_head 6 94)) 94 (le8 side)) 95 (le_flag d.disarm_eligible) ≡ frame_written (side_frame d side) s
+side_written d side s h =
+    let w = room (decision_frame d) s 95 (decision_size d) (omega arith) in
+    (λ i. sets (sets (sets (sym w.1 i) 0 (frame_head 6 94)) 94 (le8 side)) 95 (le_flag d.disarm_eligible)) ∙ side_put d side s h

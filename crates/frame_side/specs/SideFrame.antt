@@ -1,11 +1,12 @@
 -- Kind 6, document 02, L1: "kind 4 with one byte after the fence distance: the side, or 255 where there is no distance". Assumes nothing.
-use Rattle.std.specs.Prelude.{ℕ, List, ◌++◌, cond, eqb, take, drop}
+use Rattle.std.specs.Prelude.{ℕ, List, ◌++◌, take, drop, Result, Ok, Err}
+use Rattle.std.specs.Result.{result_and}
 use Rattle.types.specs.declared.Decision.{Decision}
 use Rattle.wire.specs.Fields.{u8_at, le8}
-use Rattle.wire.specs.Frame.{frame_fault, frame_head}
-use Rattle.frame_decision.specs.declared.DecisionRead.{DecisionRead}
-use Rattle.frame_decision.specs.DecisionFrame.{refused_with, read_decision, decision_frame}
-use Rattle.frame_side.specs.declared.SideRead.{SideRead}
+use Rattle.wire.specs.Frame.{check_frame, frame_head}
+use Rattle.wire.specs.declared.FrameError.{FrameError}
+use Rattle.frame_decision.specs.DecisionFrame.{read_decision, decision_frame}
+use Rattle.frame_side.specs.declared.SideDecision.{SideDecision}
 
 -- a frame of kind 4 with a byte put in after the fence distance, which ends at byte 94: kind 6, one byte longer
 abbrev pub with_side : List ℕ → ℕ → List ℕ
@@ -19,10 +20,11 @@ without_side s = frame_head 4 93 ++ (drop 4 (take 94 s) ++ drop 95 s)
 unfoldable pub side_frame : Decision → ℕ → List ℕ
 side_frame d side = with_side (decision_frame d) side
 
--- a Decision that was read, or refused, beside a side byte; any byte may stand there
-abbrev pub beside : DecisionRead → ℕ → SideRead
-beside r side = record { refused = r.refused; decision = r.decision; side = cond (eqb r.refused 0) side 0 }
+-- a Decision that was read, with a side byte; any byte may stand there
+abbrev pub beside : Result Decision FrameError → ℕ → Result SideDecision FrameError
+beside (Ok d) side = Ok (record { decision = d; side = side })
+beside (Err e) side = Err e
 
--- the frame read: the head's refusal, or what kind 4's reader makes of the rest
-unfoldable pub read_side : List ℕ → SideRead
-read_side s = beside (cond (eqb (frame_fault 6 94 s) 0) (read_decision (without_side s)) (refused_with (frame_fault 6 94 s))) (u8_at s 94)
+-- the frame read: what the head earns, or what kind 4's reader makes of the rest
+unfoldable pub read_side : List ℕ → Result SideDecision FrameError
+read_side s = result_and (check_frame 6 94 s) (beside (read_decision (without_side s)) (u8_at s 94))

@@ -1,19 +1,18 @@
 // Kind 6: a Decision with the side of the fence that gave its distance, in a frame of 96 bytes. It is kind 4's frame with one byte put in.
-#![tactic(auto)]
+#![tactic(auto, unfolding(crate::specs::SideFrame::read_side))]
 
 ghost use Rattle.std.specs.Prelude.{◌≡◌, length};
 ghost use Rattle.std.proofs.lemmas.List.Edits.{sets};
 ghost use Rattle.wire.specs.Fields.{le8, le_flag};
-ghost use Rattle.wire.specs.Frame.{frame_head, room_fault, frame_written};
-ghost use Rattle.frame_side.specs.SideFrame.{without_side, beside, side_frame, read_side};
+ghost use Rattle.wire.specs.Frame.{frame_head, check_room, frame_written};
+ghost use Rattle.frame_side.specs.SideFrame.{without_side, side_frame, read_side};
 
-use frame_decision::DecisionRead;
 use types::Decision;
+use wire::FrameError;
 
-// The Decision and the side, or a refusal with blanks beside it.
+// A Decision and the side of the fence that gave its distance.
 #[derive(Clone, Copy)]
-pub struct SideRead {
-    pub refused: u16,
+pub struct SideDecision {
     pub decision: Decision,
     pub side: u8,
 }
@@ -27,17 +26,16 @@ pub fn put_side(s: &mut [u8], side: u8, eligible: bool)
     wire::put_flag(s, 95, eligible);
 }
 
-// 0 with the frame in the first 96 bytes, or 5 with nothing written where the slice has fewer.
-pub fn write_side(s: &mut [u8], d: Decision, side: u8) -> u16
-    ensures { (result ≡ room_fault (side_frame d side) s.old) × (s.new ≡ frame_written (side_frame d side) s.old) }
+// The frame in the first 96 bytes; nothing written where the slice has fewer.
+pub fn write_side(s: &mut [u8], d: Decision, side: u8) -> Result<(), FrameError>
+    ensures { (result ≡ check_room (side_frame d side) s.old) × (s.new ≡ frame_written (side_frame d side) s.old) }
 {
     if s.len() < 96 {
-        return 5;
+        return Err(FrameError::NoRoom);
     }
-    let eligible = d.disarm_eligible;
-    frame_decision::write_decision(s, d);
-    put_side(s, side, eligible);
-    0
+    frame_decision::put_decision(s, d);
+    put_side(s, side, d.disarm_eligible);
+    Ok(())
 }
 
 // The frame of kind 4 that is left of one of kind 6 without its side.
@@ -52,30 +50,14 @@ fn without_side(s: &[u8]) -> [u8; 95]
     b
 }
 
-// The side stands beside a Decision that was read, and 0 beside a refusal.
-fn beside(r: DecisionRead, side: u8) -> SideRead
-    ensures { result ≡ beside r side }
-{
-    let d = r.decision;
-    let refused = r.refused;
-    let shown = if refused == 0 { side } else { 0 };
-    SideRead {
-        refused: refused,
-        decision: d,
-        side: shown,
-    }
-}
-
-// The Decision of a whole frame and its side, or the refusal number: 1 to 3 for the head, 4 for a field out of range.
-pub fn read_side(s: &[u8]) -> SideRead
+// The Decision of a whole frame and its side; any byte may stand for the side.
+pub fn read_side(s: &[u8]) -> Result<SideDecision, FrameError>
     ensures { result ≡ read_side s.now }
 {
-    let fault = wire::frame_fault(s, 6, 94);
-    let side = wire::u8_at(s, 94);
-    if fault == 0 {
-        let b = without_side(s);
-        beside(frame_decision::read_decision(&b), side)
-    } else {
-        beside(frame_decision::refused_with(fault), side)
-    }
+    wire::check_frame(s, 6, 94)?;
+    let decision = frame_decision::read_decision(&without_side(s))?;
+    Ok(SideDecision {
+        decision,
+        side: wire::u8_at(s, 94),
+    })
 }

@@ -1,5 +1,5 @@
 -- Both round trips of a state frame, exact: no float of it can be a NaN. Assumes nothing.
-use Rattle.std.specs.Prelude.{Some, None, unwrap_or}
+use Rattle.std.specs.Prelude.{Some, None, unwrap_or, Ok}
 use Prim.Native.Nat.{ℕ, zero, suc, ◌+◌, ◌*◌, ◌^◌, ◌<◌}
 use mathlib.Core.Path.{◌≡◌, ◌∙◌, ap, refl, sym, subst}
 use mathlib.Core.List.{List, [], ◌∷◌, ◌++◌}
@@ -18,16 +18,16 @@ use Rattle.supervisor.specs.declared.Supervisor.{Supervisor}
 use Rattle.supervisor.specs.Rules.{finite_vec, finite_stored, Rules, RaisedFits}
 use Rattle.wire.specs.Fields.{Bytes, u8_at, number_at, u16_at, flag_at, u32_at, f32_at, byte_below, le8, le_flag, le_bytes, le16, le32, le_f32, bytes_from}
 use Rattle.wire.specs.Cell.{Within}
-use Rattle.wire.specs.Frame.{frame_fault, frame_head}
+use Rattle.wire.specs.Frame.{frame_number, frame_fault, frame_head, check_frame}
 use Rattle.wire.proofs.Fields.{u32_back, flag_back, flag_valid, u32_bytes, f32_bytes, flag_bytes, u32_lt, f32_fits}
 use Rattle.wire.proofs.Head.{head_says, head_bytes}
+use Rattle.wire.proofs.Read.{accepted}
 use Rattle.wire.proofs.Whole.{first, second, whole, each}
 use Rattle.options.specs.Options.{zeros, valid_option, option_u32_at, le_option_u32}
 use Rattle.options.specs.Position.{vec3_at, le_vec3, position_cells, option_position_at, le_option_position}
 use Rattle.options.specs.Enums.{action_at, reason_at, le_action, le_reason}
 use Rattle.options.proofs.Options.{option_u32_back, option_u32_valid, option_u32_bytes, option_position_back, option_position_valid, absent_position}
 use Rattle.options.proofs.Enums.{action_back, reason_back, action_valid, reason_valid, action_bytes, reason_bytes}
-use Rattle.frame_state.specs.declared.StateRead.TheVariants.{Frame, Refused}
 use Rattle.frame_state.specs.StateFrame.{state_kind, state_length, raised_at, raised_tests, raised_read, raised_valid, le_raised, le_kept, timer_at, triggers_at, arbiter_at, state_at, timers_valid, state_tests, state_valid, read_state, le_timer, le_links, le_fence, le_battery, le_input, le_triggers, le_arbiter, state_frame, timer_cells, Typed}
 
 -- ---- value, bytes, value
@@ -151,8 +151,8 @@ raised_valid_lem true x =
     && flag_valid r.battery_low i
     && flag_valid r.energy_rtl_marginal i
 
-head : (keeps : Bool) (x : Supervisor) → frame_fault (state_kind keeps) (state_length keeps) (state_frame keeps x) ≡ 0
-unfolding frame_fault le_raised state_frame frame_head le_triggers le_links le_fence le_battery le_input le_timer le_arbiter le_action le_reason le_option_u32 le_option_position le_vec3 le_f32 le8 le16 le32 le_bytes le_flag u8_at number_at u16_at
+head : (keeps : Bool) (x : Supervisor) → check_frame (state_kind keeps) (state_length keeps) (state_frame keeps x) ≡ Ok tt
+unfolding check_frame le_raised state_frame frame_head le_triggers le_links le_fence le_battery le_input le_timer le_arbiter le_action le_reason le_option_u32 le_option_position le_vec3 le_f32 le8 le16 le32 le_bytes le_flag u8_at number_at u16_at
 head true x = refl
 head false x = refl
 
@@ -213,11 +213,11 @@ valid keeps x g r =
     && flag_valid x.initialized i
 
 -- value, bytes, value: for each state that the frame's rules allow and that the frame can hold
-pub value_back : (keeps : Bool) (x : Supervisor) → Typed x → Rules x → RaisedFits keeps x → read_state keeps (state_frame keeps x) ≡ Frame x
+pub value_back : (keeps : Bool) (x : Supervisor) → Typed x → Rules x → RaisedFits keeps x → read_state keeps (state_frame keeps x) ≡ Ok x
 unfolding read_state
 value_back keeps x g r h =
     simp (head keeps x, valid keeps x g r, raised_valid_lem keeps x)
-    (ap Frame (ap (state_at (state_frame keeps x)) (raised_back keeps x h) ∙ fields keeps x g))
+    (ap Ok (ap (state_at (state_frame keeps x)) (raised_back keeps x h) ∙ fields keeps x g))
 
 -- ---- bytes, value, bytes
 
@@ -378,25 +378,16 @@ at_rules s raised v =
     let streak = ltb-true (u8_at s 184) 3 t12.0 in
     record { stage = omega arith; streak = omega arith; stored = t10.0 }
 
--- what an accepted frame says
-opened : (a b : Bool) (n : ℕ) (y x : Supervisor) → cond a (cond b (Frame y) (Refused 4)) (Refused n) ≡ Frame x → (a ≡ true) × ((b ≡ true) × (y ≡ x))
-opened true true n y x e = (refl, (refl, cc))
-opened true false n y x e = let z : ◌≡◌ {A = ℕ} 0 1 = cc in absurd (omega arith)
-opened false b n y x e = let z : ◌≡◌ {A = ℕ} 0 1 = cc in absurd (omega arith)
-
 -- what is read of a frame is what one can hold
 at_fits : (keeps : Bool) (s : List ℕ) → RaisedFits keeps (state_at s (raised_read keeps s))
 unfolding raised_read state_at triggers_at
 at_fits true s = refl
 at_fits false s = refl
 
-module _ (keeps : Bool) (s : List ℕ) (x : Supervisor) (e : read_state keeps s ≡ Frame x) where
-  abbrev head_fault : ℕ
-  head_fault = frame_fault (state_kind keeps) (state_length keeps) s
-
-  accepts : (eqb head_fault 0 ≡ true) × ((state_valid s && raised_valid keeps s ≡ true) × (state_at s (raised_read keeps s) ≡ x))
+module _ (keeps : Bool) (s : List ℕ) (x : Supervisor) (e : read_state keeps s ≡ Ok x) where
+  accepts : (check_frame (state_kind keeps) (state_length keeps) s ≡ Ok tt) × ((state_valid s && raised_valid keeps s ≡ true) × (state_at s (raised_read keeps s) ≡ x))
   unfolding read_state
-  accepts = opened (eqb head_fault 0) (state_valid s && raised_valid keeps s) head_fault (state_at s (raised_read keeps s)) x e
+  accepts = accepted (check_frame (state_kind keeps) (state_length keeps) s) (state_valid s && raised_valid keeps s) (state_at s (raised_read keeps s)) x e
 
   is_valid : state_valid s ≡ true
   is_valid = first (state_valid s) (raised_valid keeps s) accepts.1.0
@@ -405,7 +396,7 @@ module _ (keeps : Bool) (s : List ℕ) (x : Supervisor) (e : read_state keeps s 
   pub bytes_back : Bytes s → state_frame keeps x ≡ s
   bytes_back b =
       sym (ap (state_frame keeps) accepts.1.1)
-      ∙ state_bytes_lem s b keeps (eqb-true head_fault 0 accepts.0) is_valid (second (state_valid s) (raised_valid keeps s) accepts.1.0)
+      ∙ state_bytes_lem s b keeps (ap frame_number accepts.0) is_valid (second (state_valid s) (raised_valid keeps s) accepts.1.0)
 
   -- what was read obeys the frame's rules, is within its types and is what it can hold, so it is written and read again as the very same
   pub read_rules : Rules x

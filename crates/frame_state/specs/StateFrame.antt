@@ -1,6 +1,7 @@
 -- Kind 5, state: "Supervisor without cfg and fence", "Body fields stand in the Rust's declared order". Document 02, L11, of a flight whose configuration is
 -- of kind 11: "Its state is kind 12: kind 5 with eight further bool bytes". Everywhere here `keeps` is whether it is a kind 12. Assumes nothing.
-use Rattle.std.specs.Prelude.{ℕ, zero, suc, ◌+◌, ◌*◌, ◌^◌, ◌<◌, List, [], ◌∷◌, ◌++◌, Bool, true, cond, ◌&&◌, eqb, unwrap_or}
+use Rattle.std.specs.Prelude.{ℕ, zero, suc, ◌+◌, ◌*◌, ◌^◌, ◌<◌, List, [], ◌∷◌, ◌++◌, Bool, true, cond, ◌&&◌, unwrap_or, Result, Ok, Err}
+use Rattle.std.specs.Result.{result_and}
 use Rattle.timers.specs.declared.Timer.{Timer}
 use Rattle.triggers.specs.declared.Raised.{Raised}
 use Rattle.triggers.specs.declared.TriggerState.{TriggerState}
@@ -10,11 +11,11 @@ use Rattle.supervisor.specs.declared.Supervisor.{Supervisor}
 use Rattle.supervisor.specs.Rules.{finite_stored}
 use Rattle.wire.specs.Fields.{u8_at, flag_at, u32_at, byte_below, le8, le_flag, le32}
 use Rattle.wire.specs.Cell.{Cell, u32, Within}
-use Rattle.wire.specs.Frame.{frame_fault, frame_head, all_true}
+use Rattle.wire.specs.declared.FrameError.{FrameError}
+use Rattle.wire.specs.Frame.{check_frame, frame_head, all_true}
 use Rattle.options.specs.Options.{valid_option, option_u32_at, le_option_u32}
 use Rattle.options.specs.Position.{option_position_at, le_option_position, position_cells}
 use Rattle.options.specs.Enums.{action_at, reason_at, le_action, le_reason}
-use Rattle.frame_state.specs.declared.StateRead.{StateRead}
 
 abbrev pub state_kind : Bool → ℕ
 state_kind keeps = cond keeps 12 5
@@ -139,13 +140,11 @@ raised_read keeps s = cond keeps (raised_at s) none_raised
 unfoldable pub raised_valid : Bool → List ℕ → Bool
 raised_valid keeps s = cond keeps (all_true (byte_below s 186 2) (raised_tests s)) true
 
--- the frame read: the head's refusal, 4 for a field out of range, or the value
-unfoldable pub read_state : Bool → List ℕ → StateRead
+-- the frame read: the head, then each field's range
+unfoldable pub read_state : Bool → List ℕ → Result Supervisor FrameError
 read_state keeps s =
-    let fault = frame_fault (state_kind keeps) (state_length keeps) s in
-    cond (eqb fault 0)
-    (cond (state_valid s && raised_valid keeps s) (StateRead.Frame (state_at s (raised_read keeps s))) (StateRead.Refused 4))
-    (StateRead.Refused fault)
+    result_and (check_frame (state_kind keeps) (state_length keeps) s)
+    (cond (state_valid s && raised_valid keeps s) (Ok (state_at s (raised_read keeps s))) (Err FrameError.OutOfRange))
 
 unfoldable pub le_timer : Timer → List ℕ
 le_timer t = le_option_u32 t.since_ms

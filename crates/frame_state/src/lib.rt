@@ -1,12 +1,13 @@
 // Kind 5: the supervisor's state, without configuration and fence, in its frame of 186 bytes, read and written. Kind 12, of a flight
 // that keeps raised requests, has eight bytes more: `keeps` says which it is.
-#![tactic(auto)]
+#![tactic(auto, unfolding(crate::specs::StateFrame::timer_at, crate::specs::StateFrame::triggers_at, crate::specs::StateFrame::arbiter_at, crate::specs::StateFrame::state_at, crate::specs::StateFrame::state_valid, crate::specs::StateFrame::raised_at, crate::specs::StateFrame::raised_read, crate::specs::StateFrame::raised_valid, crate::specs::StateFrame::read_state, options::specs::Options::option_u32_at, options::specs::Position::option_position_at, options::specs::Position::position_at))]
 
-ghost use Rattle.std.specs.Prelude.{◌≡◌, ◌+◌, ◌<◌, ◌≤◌, eqb, length};
+ghost use Rattle.std.specs.Prelude.{◌≡◌, ◌+◌, ◌<◌, ◌≤◌, length};
+ghost use Rattle.std.specs.Result.{IfOk};
 ghost use Rattle.std.proofs.lemmas.List.Edits.{sets};
 ghost use Rattle.supervisor.specs.Rules.{finite_vec, finite_stored};
 ghost use Rattle.supervisor.specs.Step.{fresh_supervisor};
-ghost use Rattle.wire.specs.Frame.{frame_fault, room_fault, frame_written};
+ghost use Rattle.wire.specs.Frame.{check_frame, check_room, frame_written};
 ghost use Rattle.wire.specs.Laid.{laid, Blank};
 ghost use Rattle.options.specs.Options.{valid_option};
 ghost use Rattle.options.specs.Position.{option_position_at};
@@ -19,13 +20,9 @@ use timers::Timer;
 use triggers::{Raised, TriggerState};
 use types::{PositionSample, Vec3};
 use validate::GlitchState;
+use wire::FrameError;
 
-#[derive(Clone, Copy)]
-pub enum StateRead {
-    Frame(Supervisor),
-    Refused(u16),
-}
-
+// `keeps` is what the configuration says at run time, so here and below it is a parameter and no type.
 fn state_kind(keeps: bool) -> u16
     ensures { result ≡ state_kind keeps }
 {
@@ -52,10 +49,8 @@ fn timer_at(s: &[u8], at: usize) -> Timer
     ensures { result ≡ timer_at s.now at }
 {
     let n = wire::u32_at(s, at + 1);
-    if wire::flag_at(s, at) {
-        Timer { since_ms: Some(n) }
-    } else {
-        Timer { since_ms: None }
+    Timer {
+        since_ms: wire::flag_at(s, at).then_some(n),
     }
 }
 
@@ -102,7 +97,7 @@ fn arbiter_at(s: &[u8]) -> ArbiterState
     ArbiterState {
         prev_output: options::action_at(s, 133),
         prev_reason: options::reason_at(s, 134),
-        recovery_since_ms: options::option_u32_at(s, 135),
+        recovery_since_ms: options::option_at(s, 135),
     }
 }
 
@@ -114,13 +109,13 @@ fn state_at(s: &[u8], stored: Option<PositionSample>, raised: Raised) -> Supervi
         triggers: triggers_at(s, raised),
         arbiter: arbiter_at(s),
         disarm: DisarmGate {
-            hold_since_ms: options::option_u32_at(s, 140),
+            hold_since_ms: options::option_at(s, 140),
         },
         glitch: GlitchState {
             last_accepted: stored,
             reject_streak: wire::u8_at(s, 174),
         },
-        last_now: options::option_u32_at(s, 175),
+        last_now: options::option_at(s, 175),
         epoch_start: wire::u32_at(s, 180),
         backwards_streak: wire::u8_at(s, 184),
         initialized: wire::flag_at(s, 185),
@@ -141,15 +136,13 @@ fn timer_valid(s: &[u8], at: usize) -> bool
 }
 
 // The 24 timers that stand one after the other.
+#[tactic(auto, unfolding(crate::specs::StateFrame::timers_valid))]
 fn timers_valid(s: &[u8]) -> bool
     requires { 186 ≤ length s.now }
     ensures { result ≡ timers_valid s.now 24 }
 {
-    let mut i: usize = 0;
-    while i < 24 {
-        if timer_valid(s, 6 + 5 * i) {
-            i += 1;
-        } else {
+    for i in 0..24 {
+        if !timer_valid(s, 6 + 5 * i) {
             return false;
         }
     }
@@ -166,11 +159,7 @@ fn finite_stored(o: Option<PositionSample>) -> bool
     ensures { result ≡ finite_stored o }
 {
     match o {
-        Some(p) => {
-            let pos = p.pos;
-            let vel = p.vel;
-            finite_vec(pos) & finite_vec(vel)
-        }
+        Some(p) => finite_vec(p.pos) & finite_vec(p.vel),
         None => true,
     }
 }
@@ -236,32 +225,31 @@ fn raised_valid(s: &[u8], keeps: bool) -> bool
     }
 }
 
-// Whether the head earns no refusal. The bytes that both kinds have are counted first: then the compiler tests no field for its place.
-fn state_fits(s: &[u8], keeps: bool) -> bool
-    ensures { result ≡ eqb (frame_fault (state_kind keeps) (state_length keeps) s.now) 0 }
+// The head. The bytes that both kinds have are counted beside it: then the compiler tests no field for its place.
+#[tactic(auto, using(crate::proofs::Size::least))]
+fn check_head(s: &[u8], keeps: bool) -> Result<(), FrameError>
+    ensures value { result ≡ check_frame (state_kind keeps) (state_length keeps) s.now }
+    ensures len { IfOk result (λ _. 186 ≤ length s.now) }
 {
+    wire::check_frame(s, state_kind(keeps), state_length(keeps))?;
     if s.len() < 186 {
-        return false;
+        return Err(FrameError::WrongLength);
     }
-    wire::frame_fits(s, state_kind(keeps), state_length(keeps))
+    Ok(())
 }
 
-// The state of a whole frame, or the refusal number: 1 to 3 for the head, 4 for a field out of range.
-pub fn read_state(s: &[u8], keeps: bool) -> StateRead
+// The state of a whole frame.
+pub fn read_state(s: &[u8], keeps: bool) -> Result<Supervisor, FrameError>
     ensures { result ≡ read_state keeps s.now }
 {
-    if state_fits(s, keeps) {
-        let stored = options::option_position_at(s, 145);
-        let valid = state_valid(s, stored);
-        let bools = raised_valid(s, keeps);
-        if valid & bools {
-            let raised = raised_read(s, keeps);
-            StateRead::Frame(state_at(s, stored, raised))
-        } else {
-            StateRead::Refused(4)
-        }
+    check_head(s, keeps)?;
+    let stored = options::option_at(s, 145);
+    let valid = state_valid(s, stored);
+    let bools = raised_valid(s, keeps);
+    if valid & bools {
+        Ok(state_at(s, stored, raised_read(s, keeps)))
     } else {
-        StateRead::Refused(wire::frame_fault(s, state_kind(keeps), state_length(keeps)))
+        Err(FrameError::OutOfRange)
     }
 }
 
@@ -270,13 +258,9 @@ fn put_timer(s: &mut [u8], at: usize, t: Timer)
     requires { at < 65536 }
     ensures { s.new ≡ laid s.old at (le_timer t) }
 {
-    let since_ms = t.since_ms;
-    match since_ms {
-        Some(n) => {
-            wire::put_u8(s, at, 1);
-            wire::put_u32(s, at + 1, n);
-        }
-        None => {}
+    if let Some(n) = t.since_ms {
+        wire::put_u8(s, at, 1);
+        wire::put_u32(s, at + 1, n);
     }
 }
 
@@ -284,77 +268,52 @@ fn put_links(s: &mut [u8], t: TriggerState)
     requires { Blank s.old 4 42 }
     ensures { s.new ≡ sets s.old 4 (le_links t) }
 {
-    let gcs_clear_timer = t.gcs_clear_timer;
-    let rc_clear_timer = t.rc_clear_timer;
-    let gps_deg_set = t.gps_deg_set;
-    let gps_deg_clear = t.gps_deg_clear;
-    let gps_lost_set = t.gps_lost_set;
-    let gps_lost_clear = t.gps_lost_clear;
-    let ekf_set = t.ekf_set;
-    let ekf_clear = t.ekf_clear;
     wire::put_flag(s, 4, t.battery_critical_latched);
     wire::put_flag(s, 5, t.energy_infeasible_latched);
-    put_timer(s, 6, gcs_clear_timer);
-    put_timer(s, 11, rc_clear_timer);
-    put_timer(s, 16, gps_deg_set);
-    put_timer(s, 21, gps_deg_clear);
-    put_timer(s, 26, gps_lost_set);
-    put_timer(s, 31, gps_lost_clear);
-    put_timer(s, 36, ekf_set);
-    put_timer(s, 41, ekf_clear);
+    put_timer(s, 6, t.gcs_clear_timer);
+    put_timer(s, 11, t.rc_clear_timer);
+    put_timer(s, 16, t.gps_deg_set);
+    put_timer(s, 21, t.gps_deg_clear);
+    put_timer(s, 26, t.gps_lost_set);
+    put_timer(s, 31, t.gps_lost_clear);
+    put_timer(s, 36, t.ekf_set);
+    put_timer(s, 41, t.ekf_clear);
 }
 
 fn put_fence(s: &mut [u8], t: TriggerState)
     requires { Blank s.old 46 30 }
     ensures { s.new ≡ sets s.old 46 (le_fence t) }
 {
-    let fence_breach_set = t.fence_breach_set;
-    let fence_breach_clear = t.fence_breach_clear;
-    let alt_max_set = t.alt_max_set;
-    let alt_max_clear = t.alt_max_clear;
-    let alt_min_set = t.alt_min_set;
-    let alt_min_clear = t.alt_min_clear;
-    put_timer(s, 46, fence_breach_set);
-    put_timer(s, 51, fence_breach_clear);
-    put_timer(s, 56, alt_max_set);
-    put_timer(s, 61, alt_max_clear);
-    put_timer(s, 66, alt_min_set);
-    put_timer(s, 71, alt_min_clear);
+    put_timer(s, 46, t.fence_breach_set);
+    put_timer(s, 51, t.fence_breach_clear);
+    put_timer(s, 56, t.alt_max_set);
+    put_timer(s, 61, t.alt_max_clear);
+    put_timer(s, 66, t.alt_min_set);
+    put_timer(s, 71, t.alt_min_clear);
 }
 
 fn put_battery(s: &mut [u8], t: TriggerState)
     requires { Blank s.old 76 45 }
     ensures { s.new ≡ sets s.old 76 (le_battery t) }
 {
-    let stale_bat_clear = t.stale_bat_clear;
-    let bat_warn_set = t.bat_warn_set;
-    let bat_warn_clear = t.bat_warn_clear;
-    let bat_low_set = t.bat_low_set;
-    let bat_low_clear = t.bat_low_clear;
-    let bat_crit_set = t.bat_crit_set;
-    let energy_marg_set = t.energy_marg_set;
-    let energy_marg_clear = t.energy_marg_clear;
-    let energy_infeas_set = t.energy_infeas_set;
-    put_timer(s, 76, stale_bat_clear);
-    put_timer(s, 81, bat_warn_set);
-    put_timer(s, 86, bat_warn_clear);
-    put_timer(s, 91, bat_low_set);
-    put_timer(s, 96, bat_low_clear);
-    put_timer(s, 101, bat_crit_set);
-    put_timer(s, 106, energy_marg_set);
-    put_timer(s, 111, energy_marg_clear);
-    put_timer(s, 116, energy_infeas_set);
+    put_timer(s, 76, t.stale_bat_clear);
+    put_timer(s, 81, t.bat_warn_set);
+    put_timer(s, 86, t.bat_warn_clear);
+    put_timer(s, 91, t.bat_low_set);
+    put_timer(s, 96, t.bat_low_clear);
+    put_timer(s, 101, t.bat_crit_set);
+    put_timer(s, 106, t.energy_marg_set);
+    put_timer(s, 111, t.energy_marg_clear);
+    put_timer(s, 116, t.energy_infeas_set);
 }
 
 fn put_input(s: &mut [u8], t: TriggerState)
     requires { Blank s.old 121 12 }
     ensures { s.new ≡ sets s.old 121 (le_input t) }
 {
-    let invalid_clear = t.invalid_clear;
-    let rc_lost_set = t.rc_lost_set;
-    put_timer(s, 121, invalid_clear);
+    put_timer(s, 121, t.invalid_clear);
     wire::put_flag(s, 126, t.invalid_active);
-    put_timer(s, 127, rc_lost_set);
+    put_timer(s, 127, t.rc_lost_set);
     wire::put_u8(s, 132, t.gcs_stage);
 }
 
@@ -371,12 +330,9 @@ fn put_triggers(s: &mut [u8], t: TriggerState)
 fn put_arbiter(s: &mut [u8], a: ArbiterState)
     ensures { s.new ≡ sets s.old 133 (le_arbiter a) }
 {
-    let prev_output = a.prev_output;
-    let prev_reason = a.prev_reason;
-    let recovery_since_ms = a.recovery_since_ms;
-    options::put_action(s, 133, prev_output);
-    options::put_reason(s, 134, prev_reason);
-    options::put_option_u32(s, 135, recovery_since_ms);
+    options::put_action(s, 133, a.prev_output);
+    options::put_reason(s, 134, a.prev_reason);
+    options::put_option(s, 135, a.recovery_since_ms);
 }
 
 fn put_raised(s: &mut [u8], r: Raised)
@@ -403,56 +359,44 @@ fn put_kept(s: &mut [u8], keeps: bool, r: Raised)
 fn put_state(s: &mut [u8], keeps: bool, x: Supervisor)
     ensures { s.new ≡ sets s.old 0 (state_frame keeps x) }
 {
-    let triggers = x.triggers;
-    let arbiter = x.arbiter;
-    let disarm = x.disarm;
-    let hold_since_ms = disarm.hold_since_ms;
-    let glitch = x.glitch;
-    let last_accepted = glitch.last_accepted;
-    let last_now = x.last_now;
-    let raised = triggers.raised;
-    let kind = state_kind(keeps);
-    let len = state_length(keeps);
-    wire::put_head(s, kind, len);
+    wire::put_head(s, state_kind(keeps), state_length(keeps));
     wire::put_zeros(s, 4, 129);
-    put_triggers(s, triggers);
-    put_arbiter(s, arbiter);
-    options::put_option_u32(s, 140, hold_since_ms);
-    options::put_option_position(s, 145, last_accepted);
-    wire::put_u8(s, 174, glitch.reject_streak);
-    options::put_option_u32(s, 175, last_now);
+    put_triggers(s, x.triggers);
+    put_arbiter(s, x.arbiter);
+    options::put_option(s, 140, x.disarm.hold_since_ms);
+    options::put_option(s, 145, x.glitch.last_accepted);
+    wire::put_u8(s, 174, x.glitch.reject_streak);
+    options::put_option(s, 175, x.last_now);
     wire::put_u32(s, 180, x.epoch_start);
     wire::put_u8(s, 184, x.backwards_streak);
     wire::put_flag(s, 185, x.initialized);
-    put_kept(s, keeps, raised);
+    put_kept(s, keeps, x.triggers.raised);
 }
 
-// 0 with the frame in the first bytes, or 5 with nothing written where the slice has fewer.
-pub fn write_state(s: &mut [u8], keeps: bool, x: Supervisor) -> u16
-    ensures { (result ≡ room_fault (state_frame keeps x) s.old) × (s.new ≡ frame_written (state_frame keeps x) s.old) }
+// The frame in the first bytes; nothing written where the slice has fewer.
+pub fn write_state(s: &mut [u8], keeps: bool, x: Supervisor) -> Result<(), FrameError>
+    ensures { (result ≡ check_room (state_frame keeps x) s.old) × (s.new ≡ frame_written (state_frame keeps x) s.old) }
 {
     if s.len() < 186 {
-        return 5;
+        return Err(FrameError::NoRoom);
     }
     if s.len() < state_size(keeps) {
-        return 5;
+        return Err(FrameError::NoRoom);
     }
     put_state(s, keeps, x);
-    0
+    Ok(())
 }
 
 // The same for a fresh state, whose body is zero bytes alone. A second caller of `write_state` in the entries would keep it out
 // of the step's own code.
-pub fn write_fresh(s: &mut [u8], keeps: bool) -> u16
-    ensures { (result ≡ room_fault (state_frame keeps fresh_supervisor) s.old) × (s.new ≡ frame_written (state_frame keeps fresh_supervisor) s.old) }
+pub fn write_fresh(s: &mut [u8], keeps: bool) -> Result<(), FrameError>
+    ensures { (result ≡ check_room (state_frame keeps fresh_supervisor) s.old) × (s.new ≡ frame_written (state_frame keeps fresh_supervisor) s.old) }
 {
     let size = state_size(keeps);
     if s.len() < size {
-        return 5;
+        return Err(FrameError::NoRoom);
     }
-    let kind = state_kind(keeps);
-    let len = state_length(keeps);
-    wire::put_head(s, kind, len);
+    wire::put_head(s, state_kind(keeps), state_length(keeps));
     wire::put_zeros(s, 4, size - 4);
-    0
+    Ok(())
 }

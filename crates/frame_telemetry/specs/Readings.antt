@@ -1,24 +1,17 @@
 -- The readings of a Telemetry frame, each of which may be absent: "Option a byte 0 or 1 and then its value, all zero bytes where absent",
 -- "enum a byte in declared order from 0". A byte out of range is refused before it is read. Assumes nothing.
 use Rattle.std.specs.Prelude.{ℕ, ◌+◌, List, [], ◌∷◌, Bool, false, cond, Float, Option, Some, None, is_some, unwrap_or}
-use Rattle.std.specs.Result.{result_unwrap_or}
 use Rattle.std.specs.Float.{binary32}
 use Rattle.std.specs.Float.Ieee.{of_bits}
-use Rattle.wire.specs.Fields.{u8_at, flag_at, u32_at, f32_at}
+use Rattle.wire.specs.Fields.{flag_at, u32_at, f32_at}
 use Rattle.wire.specs.Cell.{Cell, u8, flag, u32, f32}
+unfoldable pub use Rattle.options.specs.Enums.{fix_at, landed_at}
 use Rattle.options.specs.Options.{option_u8_at, option_f32_at}
-use Rattle.types.specs.Numbers.{fix_number, fix_of_number, landed_number, landed_of_number}
+use Rattle.types.specs.Numbers.{fix_number, landed_number}
 use Rattle.types.specs.declared.GpsFix.{GpsFix}
 use Rattle.types.specs.declared.LandedState.{LandedState}
 use Rattle.types.specs.declared.GpsSample.{GpsSample}
 use Rattle.types.specs.declared.Stamped.{Stamped}
-
--- GpsFix and LandedState, a byte each
-unfoldable pub fix_at : List ℕ → ℕ → GpsFix
-fix_at s i = result_unwrap_or (fix_of_number (u8_at s i)) GpsFix.None
-
-unfoldable pub landed_at : List ℕ → ℕ → LandedState
-landed_at s i = result_unwrap_or (landed_of_number (u8_at s i)) LandedState.Undefined
 
 -- Option<GpsSample>: 13 bytes
 unfoldable pub option_gps_at : List ℕ → ℕ → Option GpsSample
@@ -47,26 +40,34 @@ gps_cells o =
 abbrev pub u32_cells : Option ℕ → List Cell
 u32_cells o = flag (is_some o) ∷ u32 (unwrap_or o 0) ∷ []
 
+-- a stamp and a value after their flag, where the flag is 1
+abbrev pub stamped_at : {A : Type 0} → (List ℕ → ℕ → A) → List ℕ → ℕ → Option (Stamped A)
+stamped_at value s i = cond (flag_at s i) (Some (record { t_ms = u32_at s (i + 1); value = value s (i + 5) })) None
+
+-- a flag, a stamp and a value's cell: stamp 0 and the value zero where absent
+abbrev pub stamped_cells : {A : Type 0} → (A → Cell) → A → Option (Stamped A) → List Cell
+stamped_cells cell none o = let r = unwrap_or o (record { t_ms = 0; value = none }) in flag (is_some o) ∷ u32 r.t_ms ∷ cell r.value ∷ []
+
 -- Option<Stamped<f32>>: 9 bytes
 unfoldable pub stamped_f32_at : List ℕ → ℕ → Option (Stamped Float)
-stamped_f32_at s i = cond (flag_at s i) (Some (record { t_ms = u32_at s (i + 1); value = f32_at s (i + 5) })) None
+stamped_f32_at s i = stamped_at f32_at s i
 
--- stamp 0 and value +0 where absent
 abbrev pub stamped_f32_cells : Option (Stamped Float) → List Cell
-stamped_f32_cells o = let r = unwrap_or o (record { t_ms = 0; value = of_bits binary32 0 }) in flag (is_some o) ∷ u32 r.t_ms ∷ f32 r.value ∷ []
+stamped_f32_cells o = stamped_cells f32 (of_bits binary32 0) o
 
 -- Option<Stamped<bool>>: 6 bytes
 unfoldable pub stamped_bool_at : List ℕ → ℕ → Option (Stamped Bool)
-stamped_bool_at s i = cond (flag_at s i) (Some (record { t_ms = u32_at s (i + 1); value = flag_at s (i + 5) })) None
+stamped_bool_at s i = stamped_at flag_at s i
 
--- stamp 0 and value false where absent
 abbrev pub stamped_bool_cells : Option (Stamped Bool) → List Cell
-stamped_bool_cells o = let r = unwrap_or o (record { t_ms = 0; value = false }) in flag (is_some o) ∷ u32 r.t_ms ∷ flag r.value ∷ []
+stamped_bool_cells o = stamped_cells flag false o
 
 -- Option<Stamped<LandedState>>: 6 bytes
 unfoldable pub stamped_landed_at : List ℕ → ℕ → Option (Stamped LandedState)
-stamped_landed_at s i = cond (flag_at s i) (Some (record { t_ms = u32_at s (i + 1); value = landed_at s (i + 5) })) None
+stamped_landed_at s i = stamped_at landed_at s i
 
--- stamp 0 and value Undefined where absent
+abbrev pub landed_cell : LandedState → Cell
+landed_cell l = u8 (landed_number l)
+
 abbrev pub stamped_landed_cells : Option (Stamped LandedState) → List Cell
-stamped_landed_cells o = let r = unwrap_or o (record { t_ms = 0; value = LandedState.Undefined }) in flag (is_some o) ∷ u32 r.t_ms ∷ u8 (landed_number r.value) ∷ []
+stamped_landed_cells o = stamped_cells landed_cell LandedState.Undefined o

@@ -1,13 +1,14 @@
 -- Kind 3, Telemetry: "Body fields stand in the Rust's declared order". Assumes nothing.
-use Rattle.std.specs.Prelude.{ℕ, List, [], ◌∷◌, ◌++◌, Bool, cond, eqb}
+use Rattle.std.specs.Prelude.{ℕ, List, [], ◌∷◌, ◌++◌, Bool, cond, Result, Ok, Err}
+use Rattle.std.specs.Result.{result_and}
 use Rattle.wire.specs.Fields.{u32_at, byte_below}
 use Rattle.wire.specs.Cell.{Cell, u32, bytes_of}
-use Rattle.wire.specs.Frame.{frame_fault, frame_head, all_true}
+use Rattle.wire.specs.declared.FrameError.{FrameError}
+use Rattle.wire.specs.Frame.{check_frame, frame_head, all_true}
 use Rattle.options.specs.Options.{valid_option, option_u32_at}
 use Rattle.options.specs.Position.{option_position_at, position_cells}
 use Rattle.types.specs.declared.Telemetry.{Telemetry}
 use Rattle.types.specs.declared.BatteryInputs.{BatteryInputs}
-use Rattle.frame_telemetry.specs.declared.TelemetryRead.{TelemetryRead}
 use Rattle.frame_telemetry.specs.Readings.{option_gps_at, gps_cells, u32_cells, stamped_f32_at, stamped_f32_cells, stamped_bool_at, stamped_bool_cells, stamped_landed_at, stamped_landed_cells}
 
 -- the fields in their places, after the four bytes of the head
@@ -49,12 +50,12 @@ telemetry_tests s =
 unfoldable pub telemetry_valid : List ℕ → Bool
 telemetry_valid s = all_true (valid_option s 8 28) (telemetry_tests s)
 
--- the frame read: the head's refusal, 4, or the value
-abbrev pub read_body : List ℕ → TelemetryRead
-read_body s = cond (telemetry_valid s) (TelemetryRead.Frame (telemetry_at s)) (TelemetryRead.Refused 4)
+-- the frame read: the head, then the body
+abbrev pub read_body : List ℕ → Result Telemetry FrameError
+read_body s = cond (telemetry_valid s) (Ok (telemetry_at s)) (Err FrameError.OutOfRange)
 
-unfoldable pub read_telemetry : List ℕ → TelemetryRead
-read_telemetry s = cond (eqb (frame_fault 3 104 s) 0) (read_body s) (TelemetryRead.Refused (frame_fault 3 104 s))
+unfoldable pub read_telemetry : List ℕ → Result Telemetry FrameError
+read_telemetry s = result_and (check_frame 3 104 s) (read_body s)
 
 -- the fields as cells, in four parts
 unfoldable pub battery_cells : BatteryInputs → List Cell

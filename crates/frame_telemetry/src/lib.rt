@@ -1,41 +1,24 @@
 // Kind 3: Telemetry in its frame, read and written.
-#![tactic(auto)]
+#![tactic(auto, unfolding(options::specs::Enums::fix_at, options::specs::Enums::landed_at, crate::specs::Checked::sample_valid, crate::specs::Checked::sample_at, crate::specs::Checked::battery_field, crate::specs::Checked::telemetry_fields, crate::specs::TelemetryFrame::read_telemetry, options::specs::Position::vec3_at, options::specs::Options::option_u8_at, options::specs::Options::option_f32_at, wire::specs::Fields::f32_at))]
 
-ghost use Rattle.std.specs.Prelude.{◌≡◌, ◌+◌, ◌<◌, ◌≤◌, length, Some};
+ghost use Rattle.std.specs.Prelude.{ℕ, Bool, true, refl, List, [], ◌∷◌, ◌≡◌, ◌+◌, ◌*◌, ◌<◌, ◌≤◌, length, Some};
 ghost use Rattle.std.proofs.lemmas.List.Edits.{sets};
-ghost use Rattle.wire.specs.Fields.{u32_at, f32_at};
-ghost use Rattle.wire.specs.Cell.{bytes_of};
-ghost use Rattle.wire.specs.Frame.{room_fault, frame_written};
+ghost use Rattle.std.proofs.lemmas.List.{append-nil};
+ghost use Rattle.wire.specs.Fields.{u32_at, f32_at, le_flag, le_f32};
+ghost use Rattle.options.specs.Enums.{fix_at, le_landed};
+ghost use Rattle.options.proofs.Zeros.{zero_below};
+ghost use Rattle.wire.specs.Cell.{Cell, bytes_of};
+ghost use Rattle.wire.specs.Frame.{check_room, frame_written};
 ghost use Rattle.wire.specs.Laid.{laid, Blank};
 ghost use Rattle.options.specs.Options.{zeros, le_option_u8, le_option_f32};
 ghost use Rattle.options.specs.Position.{vec3_at, position_cells};
-ghost use Rattle.frame_telemetry.specs.Readings.{fix_at, landed_at, gps_cells, stamped_f32_cells, stamped_bool_cells, stamped_landed_cells};
-ghost use Rattle.frame_telemetry.specs.Checked.{position_field, sample_valid, sample_at, gps_field, stamped_f32_field, stamped_bool_field, landed_field, heartbeat_field, battery_field, with_status};
-ghost use Rattle.frame_telemetry.specs.TelemetryFrame.{read_body, read_telemetry, battery_cells, status_cells, telemetry_frame};
+ghost use Rattle.frame_telemetry.specs.Readings.{gps_cells, landed_cell, stamped_cells};
+ghost use Rattle.frame_telemetry.specs.Checked.{position_field, sample_valid, sample_at, gps_field, in_range, f32_valid, bool_valid, landed_valid, stamped_field, heartbeat_field, battery_field, telemetry_fields};
+ghost use Rattle.frame_telemetry.specs.TelemetryFrame.{read_telemetry, battery_cells, status_cells, telemetry_frame};
 
-use types::{
-    BatteryInputs, GpsFix, GpsSample, LandedState, PositionSample, Stamped, Telemetry, Vec3,
-};
-
-#[derive(Clone, Copy)]
-pub enum TelemetryRead {
-    Frame(Telemetry),
-    Refused(u16),
-}
-
-// A byte that is no fix's, which is refused before, is read as None.
-fn fix_at(s: &[u8], at: usize) -> GpsFix
-    ensures { result ≡ fix_at s.now at }
-{
-    GpsFix::try_from(wire::u8_at(s, at)).unwrap_or(GpsFix::None)
-}
-
-// A byte that is no state's, which is refused before, is read as Undefined.
-fn landed_at(s: &[u8], at: usize) -> LandedState
-    ensures { result ≡ landed_at s.now at }
-{
-    LandedState::try_from(wire::u8_at(s, at)).unwrap_or(LandedState::Undefined)
-}
+use options::Field;
+use types::{BatteryInputs, GpsSample, LandedState, PositionSample, Stamped, Telemetry, Vec3};
+use wire::FrameError;
 
 // The number of four bytes that are all within the slice.
 fn word(s: &[u8], at: usize) -> u32
@@ -64,49 +47,109 @@ fn vec3(s: &[u8], at: usize) -> Vec3
     }
 }
 
-// Whether the bytes of an absent value, all within the slice, are 0.
-fn zero4(s: &[u8], at: usize) -> bool
-    requires { at + 4 ≤ length s.now }
-    ensures { result ≡ zeros s.now at 4 }
+// Whether `W` words, all within the slice, are 0: the bytes of an absent value.
+#[tactic(auto, using(crate::proofs::Checked::zero_word, options::proofs::Zeros::zeros_none))]
+fn zero<const W: usize>(s: &[u8], at: usize) -> bool
+    requires { at + 4 * W ≤ length s.now }
+    ensures { result ≡ zeros s.now at (4 * W) }
 {
-    word(s, at) == 0
+    let mut zero = true;
+    for i in 0..W {
+        zero &= word(s, at + 4 * i) == 0;
+    }
+    zero
 }
 
-fn zero5(s: &[u8], at: usize) -> bool
-    requires { at + 5 ≤ length s.now }
-    ensures { result ≡ zeros s.now at 5 }
-{
-    zero4(s, at) & (s[at + 4] == 0)
+// The value of a stamped reading: a field that is one cell of `width` bytes, of which `valid` tells those in range.
+trait Value: Field {
+    ghost width: { ℕ };
+
+    ghost valid: { List ℕ → ℕ → Bool };
+
+    ghost cell: { Self → Cell };
+
+    // The value, or an error where its bytes are out of range.
+    fn checked(s: &[u8], at: usize) -> Result<Self, FrameError>
+        requires { at + width ≤ length s.now }
+        ensures { result ≡ in_range (valid s.now at) (Self.read s.now at) };
+
+    // Whether its bytes are all 0.
+    fn blank(s: &[u8], at: usize) -> bool
+        requires { at + width ≤ length s.now }
+        ensures { result ≡ zeros s.now at width };
+
+    ghost cell_bytes: { (x : Self) → bytes_of (cell x ∷ []) ≡ Self.bytes x };
+
+    ghost zero_valid: { (s : List ℕ) (i : ℕ) → zeros s i width ≡ true → valid s i ≡ true };
 }
 
-fn zero8(s: &[u8], at: usize) -> bool
-    requires { at + 8 ≤ length s.now }
-    ensures { result ≡ zeros s.now at 8 }
-{
-    zero4(s, at) & zero4(s, at + 4)
+impl Value for f32 {
+    ghost width = { 4 };
+
+    ghost valid = { f32_valid };
+
+    ghost cell = { Cell.f32 };
+
+    fn checked(s: &[u8], at: usize) -> Result<f32, FrameError> {
+        Ok(real(s, at))
+    }
+
+    fn blank(s: &[u8], at: usize) -> bool {
+        zero::<1>(s, at)
+    }
+
+    ghost cell_bytes = { λ x. append-nil (le_f32 x) };
+
+    ghost zero_valid = { λ s i h. refl };
 }
 
-fn zero12(s: &[u8], at: usize) -> bool
-    requires { at + 12 ≤ length s.now }
-    ensures { result ≡ zeros s.now at 12 }
-{
-    zero8(s, at) & zero4(s, at + 8)
+impl Value for bool {
+    ghost width = { 1 };
+
+    ghost valid = { bool_valid };
+
+    ghost cell = { Cell.flag };
+
+    fn checked(s: &[u8], at: usize) -> Result<bool, FrameError> {
+        let b = s[at];
+        if b < 2 {
+            Ok(b == 1)
+        } else {
+            Err(FrameError::OutOfRange)
+        }
+    }
+
+    fn blank(s: &[u8], at: usize) -> bool {
+        s[at] == 0
+    }
+
+    ghost cell_bytes = { λ x. append-nil (le_flag x) };
+
+    ghost zero_valid = { zero_below 1 };
 }
 
-fn zero28(s: &[u8], at: usize) -> bool
-    requires { at + 28 ≤ length s.now }
-    ensures { result ≡ zeros s.now at 28 }
-{
-    zero12(s, at) & zero8(s, at + 12) & zero8(s, at + 20)
+impl Value for LandedState {
+    ghost width = { 1 };
+
+    ghost valid = { landed_valid };
+
+    ghost cell = { landed_cell };
+
+    fn checked(s: &[u8], at: usize) -> Result<LandedState, FrameError> {
+        LandedState::try_from(s[at]).or(Err(FrameError::OutOfRange))
+    }
+
+    fn blank(s: &[u8], at: usize) -> bool {
+        s[at] == 0
+    }
+
+    ghost cell_bytes = { λ x. append-nil (le_landed x) };
+
+    ghost zero_valid = { zero_below 4 };
 }
 
-// A reading with a flag or enum byte out of range, or an absent value whose bytes are not 0.
-#[derive(Clone, Copy)]
-struct Malformed;
-
-// Each reading is tested and read at once: a frame is refused at the first that is malformed, and no flag is looked at twice.
-fn position_field(s: &[u8]) -> Result<Option<PositionSample>, Malformed>
-    requires { length s.now ≡ 106 }
+// Each reading is tested and read at once: a frame is refused at the first that is out of range, and no flag is looked at twice.
+fn position_field(s: &[u8; 106]) -> Result<Option<PositionSample>, FrameError>
     ensures { result ≡ position_field s.now }
 {
     let f = s[8];
@@ -115,15 +158,15 @@ fn position_field(s: &[u8]) -> Result<Option<PositionSample>, Malformed>
         let pos = vec3(s, 13);
         let vel = vec3(s, 25);
         Ok(Some(PositionSample { t_ms, pos, vel }))
-    } else if (f == 0) & zero28(s, 9) {
+    } else if (f == 0) & zero::<7>(s, 9) {
         Ok(None)
     } else {
-        Err(Malformed)
+        Err(FrameError::OutOfRange)
     }
 }
 
 // Whether the fix of a sample that is present, and the flags inside it, are in range.
-fn sample_valid(s: &[u8]) -> bool
+fn sample_valid(s: &[u8; 106]) -> bool
     ensures { result ≡ sample_valid s.now }
 {
     let v = wire::byte_below(s, 42, 3);
@@ -131,20 +174,18 @@ fn sample_valid(s: &[u8]) -> bool
     v && options::option_valid(s, 45, 4)
 }
 
-fn sample_at(s: &[u8]) -> GpsSample
-    requires { length s.now ≡ 106 }
+fn sample_at(s: &[u8; 106]) -> GpsSample
     ensures { result ≡ sample_at s.now }
 {
     GpsSample {
         t_ms: word(s, 38),
-        fix: fix_at(s, 42),
-        sats: options::option_u8_at(s, 43),
-        hdop: options::option_f32_at(s, 45),
+        fix: options::fix_at(s, 42),
+        sats: options::option_at(s, 43),
+        hdop: options::option_at(s, 45),
     }
 }
 
-fn gps_field(s: &[u8]) -> Result<Option<GpsSample>, Malformed>
-    requires { length s.now ≡ 106 }
+fn gps_field(s: &[u8; 106]) -> Result<Option<GpsSample>, FrameError>
     ensures { result ≡ gps_field s.now }
 {
     let f = s[37];
@@ -152,163 +193,78 @@ fn gps_field(s: &[u8]) -> Result<Option<GpsSample>, Malformed>
         if sample_valid(s) {
             Ok(Some(sample_at(s)))
         } else {
-            Err(Malformed)
+            Err(FrameError::OutOfRange)
         }
-    } else if (f == 0) & zero12(s, 38) {
+    } else if (f == 0) & zero::<3>(s, 38) {
         Ok(None)
     } else {
-        Err(Malformed)
+        Err(FrameError::OutOfRange)
     }
 }
 
-fn stamped_f32_field(s: &[u8], at: usize) -> Result<Option<Stamped<f32>>, Malformed>
-    requires { at + 9 ≤ length s.now }
-    ensures { result ≡ stamped_f32_field s.now at }
+fn stamped_field<T: Value>(s: &[u8], at: usize) -> Result<Option<Stamped<T>>, FrameError>
+    requires { at + 5 + T.width ≤ length s.now }
+    ensures { result ≡ stamped_field T.read T.valid T.width s.now at }
 {
     let f = s[at];
     if f == 1 {
+        let value = T::checked(s, at + 5)?;
         let t_ms = word(s, at + 1);
-        let value = real(s, at + 5);
         Ok(Some(Stamped { t_ms, value }))
-    } else if (f == 0) & zero8(s, at + 1) {
+    } else if (f == 0) & zero::<1>(s, at + 1) & T::blank(s, at + 5) {
         Ok(None)
     } else {
-        Err(Malformed)
+        Err(FrameError::OutOfRange)
     }
 }
 
-fn stamped_bool_field(s: &[u8], at: usize) -> Result<Option<Stamped<bool>>, Malformed>
-    requires { at + 6 ≤ length s.now }
-    ensures { result ≡ stamped_bool_field s.now at }
-{
-    let f = s[at];
-    if f == 1 {
-        let b = s[at + 5];
-        if b < 2 {
-            let t_ms = word(s, at + 1);
-            Ok(Some(Stamped {
-                t_ms,
-                value: b == 1,
-            }))
-        } else {
-            Err(Malformed)
-        }
-    } else if (f == 0) & zero5(s, at + 1) {
-        Ok(None)
-    } else {
-        Err(Malformed)
-    }
-}
-
-fn landed_field(s: &[u8]) -> Result<Option<Stamped<LandedState>>, Malformed>
-    requires { length s.now ≡ 106 }
-    ensures { result ≡ landed_field s.now }
-{
-    let f = s[88];
-    if f == 1 {
-        if s[93] < 5 {
-            let t_ms = word(s, 89);
-            let value = landed_at(s, 93);
-            Ok(Some(Stamped { t_ms, value }))
-        } else {
-            Err(Malformed)
-        }
-    } else if (f == 0) & zero5(s, 89) {
-        Ok(None)
-    } else {
-        Err(Malformed)
-    }
-}
-
-fn heartbeat_field(s: &[u8]) -> Result<Option<u32>, Malformed>
-    requires { length s.now ≡ 106 }
+fn heartbeat_field(s: &[u8; 106]) -> Result<Option<u32>, FrameError>
     ensures { result ≡ heartbeat_field s.now }
 {
     let f = s[77];
     if f == 1 {
         Ok(Some(word(s, 78)))
-    } else if (f == 0) & zero4(s, 78) {
+    } else if (f == 0) & zero::<1>(s, 78) {
         Ok(None)
     } else {
-        Err(Malformed)
+        Err(FrameError::OutOfRange)
     }
 }
 
-fn battery_field(s: &[u8]) -> Result<BatteryInputs, Malformed>
-    requires { length s.now ≡ 106 }
+fn battery_field(s: &[u8; 106]) -> Result<BatteryInputs, FrameError>
     ensures { result ≡ battery_field s.now }
 {
     Ok(BatteryInputs {
-        voltage_v: stamped_f32_field(s, 50)?,
-        percent: stamped_f32_field(s, 59)?,
-        remaining_wh: stamped_f32_field(s, 68)?,
+        voltage_v: stamped_field(s, 50)?,
+        percent: stamped_field(s, 59)?,
+        remaining_wh: stamped_field(s, 68)?,
     })
 }
 
-// The Telemetry with the readings from the heartbeat on, or refusal 4.
-fn with_status(
-    s: &[u8],
-    position: Option<PositionSample>,
-    gps: Option<GpsSample>,
-    battery: BatteryInputs,
-) -> TelemetryRead
-    requires { length s.now ≡ 106 }
-    ensures { result ≡ with_status s.now position gps battery }
+// The Telemetry of a body.
+fn telemetry_fields(s: &[u8; 106]) -> Result<Telemetry, FrameError>
+    ensures { result ≡ telemetry_fields s.now }
 {
-    let Ok(gcs_heartbeat_ms) = heartbeat_field(s) else {
-        return TelemetryRead::Refused(4);
-    };
-    let Ok(armed) = stamped_bool_field(s, 82) else {
-        return TelemetryRead::Refused(4);
-    };
-    let Ok(landed) = landed_field(s) else {
-        return TelemetryRead::Refused(4);
-    };
-    let Ok(rc_ok) = stamped_bool_field(s, 94) else {
-        return TelemetryRead::Refused(4);
-    };
-    let Ok(ekf_ok) = stamped_bool_field(s, 100) else {
-        return TelemetryRead::Refused(4);
-    };
-    TelemetryRead::Frame(Telemetry {
+    Ok(Telemetry {
         now_ms: word(s, 4),
-        position,
-        gps,
-        battery,
-        gcs_heartbeat_ms,
-        armed,
-        landed,
-        rc_ok,
-        ekf_ok,
+        position: position_field(s)?,
+        gps: gps_field(s)?,
+        battery: battery_field(s)?,
+        gcs_heartbeat_ms: heartbeat_field(s)?,
+        armed: stamped_field(s, 82)?,
+        landed: stamped_field(s, 88)?,
+        rc_ok: stamped_field(s, 94)?,
+        ekf_ok: stamped_field(s, 100)?,
     })
 }
 
-// The Telemetry of a body, or refusal 4.
-fn telemetry_at(s: &[u8]) -> TelemetryRead
-    requires { length s.now ≡ 106 }
-    ensures { result ≡ read_body s.now }
-{
-    let Ok(position) = position_field(s) else {
-        return TelemetryRead::Refused(4);
-    };
-    let Ok(gps) = gps_field(s) else {
-        return TelemetryRead::Refused(4);
-    };
-    let Ok(battery) = battery_field(s) else {
-        return TelemetryRead::Refused(4);
-    };
-    with_status(s, position, gps, battery)
-}
-
-// The Telemetry of a whole frame of kind 3, or the number of the refusal.
-pub fn read_telemetry(s: &[u8]) -> TelemetryRead
+// The Telemetry of a whole frame of kind 3.
+#[tactic(auto, using(crate::proofs::Checked::by_fields), unfolding(crate::specs::TelemetryFrame::read_telemetry))]
+pub fn read_telemetry(s: &[u8]) -> Result<Telemetry, FrameError>
     ensures { result ≡ read_telemetry s.now }
 {
-    if wire::frame_fits(s, 3, 104) {
-        telemetry_at(s)
-    } else {
-        TelemetryRead::Refused(wire::frame_fault(s, 3, 104))
-    }
+    wire::check_frame(s, 3, 104)?;
+    telemetry_fields(s.as_array().ok_or(FrameError::WrongLength)?)
 }
 
 // Over bytes of 0, as an absent reading leaves them, only what is present is written.
@@ -372,61 +328,35 @@ fn put_gps(s: &mut [u8], o: Option<GpsSample>)
     }
 }
 
-fn put_stamped_f32(s: &mut [u8], at: usize, o: Option<Stamped<f32>>)
+fn put_stamped<T: Value>(s: &mut [u8], at: usize, o: Option<Stamped<T>>)
     requires { at < 65536 }
-    ensures { s.new ≡ sets s.old at (bytes_of (stamped_f32_cells o)) }
+    ensures { s.new ≡ sets s.old at (bytes_of (stamped_cells T.cell T.zero o)) }
 {
     let r = o.unwrap_or(Stamped {
         t_ms: 0,
-        value: 0.0,
+        value: T::zero(),
     });
     wire::put_flag(s, at, o.is_some());
     wire::put_u32(s, at + 1, r.t_ms);
-    wire::put_f32(s, at + 5, r.value);
-}
-
-fn put_stamped_bool(s: &mut [u8], at: usize, o: Option<Stamped<bool>>)
-    requires { at < 65536 }
-    ensures { s.new ≡ sets s.old at (bytes_of (stamped_bool_cells o)) }
-{
-    let r = o.unwrap_or(Stamped {
-        t_ms: 0,
-        value: false,
-    });
-    wire::put_flag(s, at, o.is_some());
-    wire::put_u32(s, at + 1, r.t_ms);
-    wire::put_flag(s, at + 5, r.value);
-}
-
-fn put_stamped_landed(s: &mut [u8], at: usize, o: Option<Stamped<LandedState>>)
-    requires { at < 65536 }
-    ensures { s.new ≡ sets s.old at (bytes_of (stamped_landed_cells o)) }
-{
-    let r = o.unwrap_or(Stamped {
-        t_ms: 0,
-        value: LandedState::Undefined,
-    });
-    wire::put_flag(s, at, o.is_some());
-    wire::put_u32(s, at + 1, r.t_ms);
-    wire::put_u8(s, at + 5, u8::from(r.value));
+    r.value.put(s, at + 5);
 }
 
 fn put_battery(s: &mut [u8], b: BatteryInputs)
     ensures { s.new ≡ sets s.old 50 (bytes_of (battery_cells b)) }
 {
-    put_stamped_f32(s, 50, b.voltage_v);
-    put_stamped_f32(s, 59, b.percent);
-    put_stamped_f32(s, 68, b.remaining_wh);
+    put_stamped(s, 50, b.voltage_v);
+    put_stamped(s, 59, b.percent);
+    put_stamped(s, 68, b.remaining_wh);
 }
 
 fn put_status(s: &mut [u8], t: Telemetry)
     ensures { s.new ≡ sets s.old 77 (bytes_of (status_cells t)) }
 {
-    options::put_option_u32(s, 77, t.gcs_heartbeat_ms);
-    put_stamped_bool(s, 82, t.armed);
-    put_stamped_landed(s, 88, t.landed);
-    put_stamped_bool(s, 94, t.rc_ok);
-    put_stamped_bool(s, 100, t.ekf_ok);
+    options::put_option(s, 77, t.gcs_heartbeat_ms);
+    put_stamped(s, 82, t.armed);
+    put_stamped(s, 88, t.landed);
+    put_stamped(s, 94, t.rc_ok);
+    put_stamped(s, 100, t.ekf_ok);
 }
 
 fn put_telemetry(s: &mut [u8], t: Telemetry)
@@ -440,13 +370,13 @@ fn put_telemetry(s: &mut [u8], t: Telemetry)
     put_status(s, t);
 }
 
-// 0 with the frame in the first 106 bytes, or 5 with nothing written where the slice has fewer.
-pub fn write_telemetry(s: &mut [u8], t: Telemetry) -> u16
-    ensures { (result ≡ room_fault (telemetry_frame t) s.old) × (s.new ≡ frame_written (telemetry_frame t) s.old) }
+// The frame in the first 106 bytes; nothing written where the slice has fewer.
+pub fn write_telemetry(s: &mut [u8], t: Telemetry) -> Result<(), FrameError>
+    ensures { (result ≡ check_room (telemetry_frame t) s.old) × (s.new ≡ frame_written (telemetry_frame t) s.old) }
 {
     if s.len() < 106 {
-        return 5;
+        return Err(FrameError::NoRoom);
     }
     put_telemetry(s, t);
-    0
+    Ok(())
 }

@@ -1,26 +1,23 @@
 -- Both round trips of a Telemetry frame. A NaN is one value here, so value, bytes, value says nothing of its bits; bytes, value, bytes gives the same bytes
 -- but for those of a NaN. Assumes nothing.
-use Rattle.std.specs.Prelude.{unwrap_or}
+use Rattle.std.specs.Prelude.{unwrap_or, Ok}
 use Prim.Native.Nat.{ℕ, ◌+◌}
 use mathlib.Core.Path.{◌≡◌, ◌∙◌, ap, refl, subst}
 use mathlib.Core.List.{List, [], ◌∷◌, ◌++◌}
-use mathlib.Core.Bool.{Bool, true, false, cond, ◌&&◌}
-use native.Mathlib.Omega.{arith}
-use lib.Dec.{eqb}
-use borrow.Author.Tests.{eqb-true}
+use mathlib.Core.Bool.{true, false, ◌&&◌}
 use Rattle.types.specs.declared.LandedState.{LandedState}
 use Rattle.types.specs.declared.Telemetry.{Telemetry}
 use Rattle.wire.specs.Fields.{Bytes, u8_at, number_at, u16_at, flag_at, u32_at, f32_at, byte_below, le8, le_flag, le_bytes, le16, le32, le_f32, bytes_from}
 use Rattle.wire.specs.Cell.{Cell, u8, flag, u16, u32, f32, Within, U16, sorts_of, NoNan, nan_rewritten, widths}
-use Rattle.wire.specs.Frame.{frame_fault, frame_head}
+use Rattle.wire.specs.Frame.{frame_number, frame_fault, frame_head, check_frame}
 use Rattle.wire.proofs.Fields.{u32_back, flag_valid, u32_bytes}
 use Rattle.wire.proofs.Head.{head_says, head_bytes}
+use Rattle.wire.proofs.Read.{accepted}
 use Rattle.wire.proofs.Cells.{nan_free}
 use Rattle.wire.proofs.Whole.{whole, each}
 use Rattle.options.specs.Options.{zeros, valid_option, option_u8_at, option_u32_at, option_f32_at, le_option_u8, le_option_u32, le_option_f32}
 use Rattle.options.specs.Position.{vec3_at, le_vec3, option_position_at, le_option_position, position_cells}
 use Rattle.options.proofs.Options.{option_u32_back, option_position_back, option_u8_valid, option_u32_valid, option_f32_valid, option_position_valid, option_u32_bytes, option_position_bytes}
-use Rattle.frame_telemetry.specs.declared.TelemetryRead.TheVariants.{Frame, Refused}
 use Rattle.frame_telemetry.specs.Readings.{fix_at, landed_at, option_gps_at, zero_gps, gps_cells, stamped_f32_at, stamped_bool_at, stamped_landed_at}
 use Rattle.frame_telemetry.specs.TelemetryFrame.{telemetry_at, telemetry_tests, telemetry_valid, read_telemetry, battery_cells, status_cells, telemetry_cells, telemetry_frame}
 use Rattle.frame_telemetry_trips.proofs.Readings.{gps_back, stamped_f32_back, stamped_bool_back, stamped_landed_back, fix_valid, landed_valid_lem, gps_valid_lem, stamped_f32_valid, stamped_bool_valid_lem, stamped_landed_valid, gps_bytes, stamped_f32_bytes, stamped_bool_bytes, stamped_landed_bytes}
@@ -68,8 +65,8 @@ fields t g =
       ekf_ok = stamped_bool_back t.ekf_ok (r.1.1.1.1.1.0, tt) j;
     }
 
-head : (t : Telemetry) → frame_fault 3 104 (telemetry_frame t) ≡ 0
-unfolding frame_fault telemetry_frame telemetry_cells battery_cells status_cells frame_head u8_at number_at u16_at le8 le_flag le_bytes le16 le32 le_f32
+head : (t : Telemetry) → check_frame 3 104 (telemetry_frame t) ≡ Ok tt
+unfolding check_frame telemetry_frame telemetry_cells battery_cells status_cells frame_head u8_at number_at u16_at le8 le_flag le_bytes le16 le32 le_f32
 head t = refl
 
 valid : (t : Telemetry) → telemetry_valid (telemetry_frame t) ≡ true
@@ -88,15 +85,9 @@ valid t =
     && stamped_bool_valid_lem t.rc_ok j) && flag_valid rc_ok.value j) && stamped_bool_valid_lem t.ekf_ok j) && flag_valid ekf_ok.value j)
 
 -- value, bytes, value: for each Telemetry whose numbers are within their types and whose floats are binary32's
-pub value_back : (t : Telemetry) → Within (telemetry_cells t) → read_telemetry (telemetry_frame t) ≡ Frame t
+pub value_back : (t : Telemetry) → Within (telemetry_cells t) → read_telemetry (telemetry_frame t) ≡ Ok t
 unfolding read_telemetry
 value_back t g = simp (head t, valid t, fields t g)
-
--- what an accepted frame says
-opened : (a b : Bool) (n : ℕ) (u t : Telemetry) → cond a (cond b (Frame u) (Refused 4)) (Refused n) ≡ Frame t → (a ≡ true) × ((b ≡ true) × (u ≡ t))
-opened true true n u t e = (refl, (refl, cc))
-opened true false n u t e = let z : ◌≡◌ {A = ℕ} 0 1 = cc in absurd (omega arith)
-opened false b n u t e = let z : ◌≡◌ {A = ℕ} 0 1 = cc in absurd (omega arith)
 
 -- the frame of what was read, reading by reading
 readings : (s : List ℕ) → Bytes s → frame_fault 3 104 s ≡ 0 → telemetry_valid s ≡ true → telemetry_frame (telemetry_at s) ≡ nan_rewritten (U16 ∷ U16 ∷ sorts_of (telemetry_cells (telemetry_at s))) s 0
@@ -125,19 +116,19 @@ long : (t : Telemetry) → widths (sorts_of (telemetry_cells t)) ≡ 102
 unfolding telemetry_cells battery_cells status_cells
 long t = refl
 
-module _ (s : List ℕ) (t : Telemetry) (b : Bytes s) (e : read_telemetry s ≡ Frame t) where
-  accepted : (eqb (frame_fault 3 104 s) 0 ≡ true) × ((telemetry_valid s ≡ true) × (telemetry_at s ≡ t))
+module _ (s : List ℕ) (t : Telemetry) (b : Bytes s) (e : read_telemetry s ≡ Ok t) where
+  opened : (check_frame 3 104 s ≡ Ok tt) × ((telemetry_valid s ≡ true) × (telemetry_at s ≡ t))
   unfolding read_telemetry
-  accepted = opened (eqb (frame_fault 3 104 s) 0) (telemetry_valid s) (frame_fault 3 104 s) (telemetry_at s) t e
+  opened = accepted (check_frame 3 104 s) (telemetry_valid s) (telemetry_at s) t e
 
   sound : frame_fault 3 104 s ≡ 0
-  sound = eqb-true (frame_fault 3 104 s) 0 accepted.0
+  sound = ap frame_number opened.0
 
   -- bytes, value, bytes: each NaN's bits become 7FC00000, the head is two fields of two bytes
   pub bytes_back : telemetry_frame t ≡ nan_rewritten (U16 ∷ U16 ∷ sorts_of (telemetry_cells t)) s 0
   bytes_back =
-      subst (λ (u : Telemetry). telemetry_frame u ≡ nan_rewritten (U16 ∷ U16 ∷ sorts_of (telemetry_cells u)) s 0) accepted.1.1
-      (readings s b sound accepted.1.0)
+      subst (λ (u : Telemetry). telemetry_frame u ≡ nan_rewritten (U16 ∷ U16 ∷ sorts_of (telemetry_cells u)) s 0) opened.1.1
+      (readings s b sound opened.1.0)
 
   -- the very bytes, where no float is a NaN
   pub bytes_same : NoNan (U16 ∷ U16 ∷ sorts_of (telemetry_cells t)) s 0 → telemetry_frame t ≡ s

@@ -1,15 +1,15 @@
 // A Telemetry that is written and read again is the same: the round trip as code.
 #![tactic(auto)]
 
-ghost use Rattle.std.specs.Prelude.{◌≡◌};
+ghost use Rattle.std.specs.Prelude.{◌≡◌, Ok};
 
-use frame_telemetry::TelemetryRead;
 use types::Telemetry;
+use wire::FrameError;
 
-pub fn written_and_read(t: Telemetry) -> TelemetryRead
-    ensures { result ≡ TelemetryRead.Frame t }
+pub fn written_and_read(t: Telemetry) -> Result<Telemetry, FrameError>
+    ensures { result ≡ Ok t }
 {
     let mut b = [0u8; 106];
-    frame_telemetry::write_telemetry(&mut b, t);
+    frame_telemetry::write_telemetry(&mut b, t)?;
     frame_telemetry::read_telemetry(&b)
 }

@@ -1,9 +1,10 @@
 -- Kind 10, document 02, L7: "kind 10 the state with all instants in eight bytes": a kind 5 with its 30 instants in eight bytes each. Assumes nothing.
-use Rattle.std.specs.Prelude.{ℕ, List, [], ◌∷◌, ◌++◌, Bool, false, not, ◌&&◌, cond, eqb, drop, replicate}
+use Rattle.std.specs.Prelude.{ℕ, List, [], ◌∷◌, ◌++◌, Bool, false, not, ◌&&◌, cond, drop, replicate, Result, Ok, Err}
+use Rattle.std.specs.Result.{result_and}
 use Rattle.supervisor.specs.declared.Supervisor.{Supervisor}
 use Rattle.wire.specs.Fields.{flag_at}
-use Rattle.wire.specs.Frame.{frame_fault, frame_head}
-use Rattle.frame_state.specs.declared.StateRead.{StateRead}
+use Rattle.wire.specs.declared.FrameError.{FrameError}
+use Rattle.wire.specs.Frame.{check_frame, frame_head}
 use Rattle.frame_state.specs.StateFrame.{read_state, state_frame}
 use Rattle.instants.specs.Retimed.{TimerName, gcs_clear, rc_clear, gps_deg_set, gps_deg_clear, gps_lost_set, gps_lost_clear, ekf_set, ekf_clear, breach_set, breach_clear, alt_max_set, alt_max_clear, alt_min_set, alt_min_clear, stale_clear, warn_set, warn_clear, low_set, low_clear, crit_set, marg_set, marg_clear, infeas_set, invalid_clear, rc_set, Instants, supervisor_at}
 use Rattle.instants.specs.Own.{instants_of}
@@ -23,15 +24,13 @@ state_on given s = frame_head 5 184 ++ narrowed state_gaps given (drop 4 s)
 unfoldable pub wide_instants : List ℕ → Instants
 wide_instants s = unlisted (instants_at 8 state_gaps (drop 4 s))
 
-abbrev pub with_instants : Instants → StateRead → StateRead
-with_instants i (StateRead.Refused n) = StateRead.Refused n
-with_instants i (StateRead.Frame x) = StateRead.Frame (supervisor_at i x)
+abbrev pub with_instants : Instants → Result Supervisor FrameError → Result Supervisor FrameError
+with_instants i (Ok x) = Ok (supervisor_at i x)
+with_instants i (Err e) = Err e
 
--- the frame read: the head's refusal; else it is judged as a kind 5, where no rule looks at an instant that is there, and has its own instants
-unfoldable pub read_wide_state : List ℕ → StateRead
-read_wide_state s =
-    let fault = frame_fault 10 304 s in
-    cond (eqb fault 0) (with_instants (wide_instants s) (read_state false (state_on (replicate 30 0) s))) (StateRead.Refused fault)
+-- the frame read: the head; then it is judged as a kind 5, where no rule looks at an instant that is there, and has its own instants
+unfoldable pub read_wide_state : List ℕ → Result Supervisor FrameError
+read_wide_state s = result_and (check_frame 10 304 s) (with_instants (wide_instants s) (read_state false (state_on (replicate 30 0) s)))
 
 -- the whole frame
 unfoldable pub wide_state_frame : Supervisor → List ℕ

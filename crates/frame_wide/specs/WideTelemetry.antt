@@ -1,8 +1,9 @@
 -- Kind 9, document 02, L7: "Kind 9 is Telemetry .. with all instants in eight bytes": a kind 3 with its 11 instants in eight bytes each. Assumes nothing.
-use Rattle.std.specs.Prelude.{ℕ, List, [], ◌∷◌, ◌++◌, cond, eqb, drop, replicate}
+use Rattle.std.specs.Prelude.{ℕ, List, [], ◌∷◌, ◌++◌, drop, replicate, Result, Ok, Err}
+use Rattle.std.specs.Result.{result_and}
 use Rattle.types.specs.declared.Telemetry.{Telemetry}
-use Rattle.wire.specs.Frame.{frame_fault, frame_head}
-use Rattle.frame_telemetry.specs.declared.TelemetryRead.{TelemetryRead}
+use Rattle.wire.specs.declared.FrameError.{FrameError}
+use Rattle.wire.specs.Frame.{check_frame, frame_head}
 use Rattle.frame_telemetry.specs.TelemetryFrame.{read_telemetry, telemetry_frame}
 use Rattle.instants.specs.Retimed.{Stamps, telemetry_at}
 use Rattle.instants.specs.Own.{stamps_of}
@@ -22,15 +23,13 @@ telemetry_on given s = frame_head 3 104 ++ narrowed telemetry_gaps given (drop 4
 unfoldable pub wide_stamps : List ℕ → Stamps
 wide_stamps s = stamps_unlisted (instants_at 8 telemetry_gaps (drop 4 s))
 
-abbrev pub with_stamps : Stamps → TelemetryRead → TelemetryRead
-with_stamps j (TelemetryRead.Refused n) = TelemetryRead.Refused n
-with_stamps j (TelemetryRead.Frame t) = TelemetryRead.Frame (telemetry_at j t)
+abbrev pub with_stamps : Stamps → Result Telemetry FrameError → Result Telemetry FrameError
+with_stamps j (Ok t) = Ok (telemetry_at j t)
+with_stamps j (Err e) = Err e
 
--- the frame read: the head's refusal; else it is judged as a kind 3, where no rule looks at an instant that is there, and has its own instants
-unfoldable pub read_wide_telemetry : List ℕ → TelemetryRead
-read_wide_telemetry s =
-    let fault = frame_fault 9 148 s in
-    cond (eqb fault 0) (with_stamps (wide_stamps s) (read_telemetry (telemetry_on (replicate 11 0) s))) (TelemetryRead.Refused fault)
+-- the frame read: the head; then it is judged as a kind 3, where no rule looks at an instant that is there, and has its own instants
+unfoldable pub read_wide_telemetry : List ℕ → Result Telemetry FrameError
+read_wide_telemetry s = result_and (check_frame 9 148 s) (with_stamps (wide_stamps s) (read_telemetry (telemetry_on (replicate 11 0) s)))
 
 -- the whole frame
 unfoldable pub wide_telemetry_frame : Telemetry → List ℕ

@@ -4,10 +4,7 @@ use Prim.Native.Nat.{ℕ, ◌+◌}
 use mathlib.Core.Path.{◌≡◌, ◌∙◌, ap, refl, sym, subst}
 use mathlib.Core.Bool.{Bool, true, false, not, ◌&&◌, cond}
 use mathlib.Core.List.{List}
-use native.Mathlib.Omega.{arith}
-use lib.Dec.{eqb}
 use lib.ListN.{length, replicate}
-use borrow.Author.Tests.{eqb-true}
 use Rattle.timers.specs.Timer.{started}
 use Rattle.triggers.specs.declared.TriggerState.{TriggerState}
 use Rattle.triggers.specs.Update.{none_raised}
@@ -15,12 +12,13 @@ use Rattle.triggers.specs.Families.{is_present}
 use Rattle.supervisor.specs.declared.Supervisor.{Supervisor}
 use Rattle.supervisor.specs.declared.Stepped.{Stepped}
 use Rattle.wire.specs.Fields.{u8_at, flag_at, u32_at, le_bytes, le16, elements_from, bytes_from}
-use Rattle.wire.specs.Frame.{frame_fault, frame_head}
+use Rattle.wire.specs.Frame.{check_frame, frame_number, frame_fault, frame_head}
 use Rattle.wire.proofs.Head.{head_says}
 use Rattle.wire.proofs.Whole.{whole}
 use Rattle.options.specs.Options.{option_u32_at}
-use Rattle.frame_state.specs.declared.StateRead.{StateRead}
-use Rattle.frame_state.specs.declared.StateRead.TheVariants.{Frame, Refused}
+use Rattle.std.specs.Prelude.{Result, Ok, Err}
+use Rattle.wire.specs.declared.FrameError.{FrameError}
+use Rattle.wire.proofs.Read.{behind_head, within_range}
 use Rattle.frame_state.specs.StateFrame.{timer_at, triggers_at, arbiter_at, state_at, state_valid, read_state}
 use Rattle.instants.specs.Retimed.{TimerName, gcs_clear, rc_clear, gps_deg_set, gps_deg_clear, gps_lost_set, gps_lost_clear, ekf_set, ekf_clear, breach_set, breach_clear, alt_max_set, alt_max_clear, alt_min_set, alt_min_clear, stale_clear, warn_set, warn_clear, low_set, low_clear, crit_set, marg_set, marg_clear, infeas_set, invalid_clear, rc_set, timer_of, Instants, Stamps, instead, supervisor_at, onwards, third_fault, instants_after}
 use Rattle.instants.specs.Retimed.{triggers_at as triggers_with}
@@ -74,36 +72,31 @@ module _ (given s : List ℕ) where
   unfolding state_at arbiter_at state_on narrowed state_gaps frame_head le16 le_bytes u8_at flag_at
   flags_on = record { timers = timer_flag; recovery = started_at narrow 135; gate = started_at narrow 140; initialized = refl }
 
--- what an accepted body says
-pub accepted : (b : Bool) (y x : Supervisor) → cond b (Frame y) (Refused 4) ≡ Frame x → (b ≡ true) × (y ≡ x)
-accepted true y x e = (refl, cc)
-accepted false y x e = let z : ◌≡◌ {A = ℕ} 0 1 = cc in absurd (omega arith)
-
 pub flags_read :
-    (given s : List ℕ) (x : Supervisor) → length given ≡ 30 → frame_fault 10 304 s ≡ 0 → read_state false (state_on given s) ≡ Frame x → Flags s x
+    (given s : List ℕ) (x : Supervisor) → length given ≡ 30 → frame_fault 10 304 s ≡ 0 → read_state false (state_on given s) ≡ Ok x → Flags s x
 flags_read given s x n h e =
     let f = whole 0 306 s (head_says 10 304 s h).1.1 in
     let g = whole 0 30 given n in
     let t = narrow given s in
-    let a = accepted (state_valid t && true) (state_at t none_raised) x (sym (opened t (frame_on s given)) ∙ (λ j. read_state false (state_on (g j) (f j))) ∙ e) in
+    let a = within_range (state_valid t && true) (state_at t none_raised) x (sym (opened t (frame_on s given)) ∙ (λ j. read_state false (state_on (g j) (f j))) ∙ e) in
     subst (Flags s) a.1 (flags_on given s)
 
 -- what an accepted kind 10 says
 pub record Accepted (s : List ℕ) (x : Supervisor) : Type 0 where
   pub head : frame_fault 10 304 s ≡ 0
   pub inner : Supervisor
-  pub read : read_state false (state_on (replicate 30 0) s) ≡ Frame inner
+  pub read : read_state false (state_on (replicate 30 0) s) ≡ Ok inner
   pub at : supervisor_at (wide_instants s) inner ≡ x
 
-pub wide_accepted : (s : List ℕ) (x : Supervisor) → read_wide_state s ≡ Frame x → Accepted s x
+pub wide_accepted : (s : List ℕ) (x : Supervisor) → read_wide_state s ≡ Ok x → Accepted s x
 unfolding read_wide_state
-wide_accepted s x e = go (eqb (frame_fault 10 304 s) 0) refl (read_state false (state_on (replicate 30 0) s)) refl e
+wide_accepted s x e =
+    let a = behind_head (check_frame 10 304 s) (with_instants (wide_instants s) (read_state false (state_on (replicate 30 0) s))) x e in
+    go (read_state false (state_on (replicate 30 0) s)) refl a.1 (ap frame_number a.0)
   where
-    go : (b : Bool) → eqb (frame_fault 10 304 s) 0 ≡ b → (r : StateRead) → read_state false (state_on (replicate 30 0) s) ≡ r →
-        cond b (with_instants (wide_instants s) r) (Refused (frame_fault 10 304 s)) ≡ Frame x → Accepted s x
-    go true p (StateRead.Frame y) q h = record { head = eqb-true (frame_fault 10 304 s) 0 p; inner = y; read = q; at = cc }
-    go true p (StateRead.Refused n) q h = let z : ◌≡◌ {A = ℕ} 0 1 = cc in absurd (omega arith)
-    go false p r q h = let z : ◌≡◌ {A = ℕ} 0 1 = cc in absurd (omega arith)
+    go : (r : Result Supervisor FrameError) → read_state false (state_on (replicate 30 0) s) ≡ r → with_instants (wide_instants s) r ≡ Ok x → frame_fault 10 304 s ≡ 0 → Accepted s x
+    go (Ok y) q h p = record { head = p; inner = y; read = q; at = cc }
+    go (Err d) q h p = cc
 
 started_instead : (n : ℕ) (o : Option ℕ) → started (instead n o) ≡ started o
 started_instead n None = refl
@@ -148,7 +141,7 @@ flags_at s i x f =
       initialized = f.initialized;
     }
 
-pub flags_wide : (s : List ℕ) (x : Supervisor) → read_wide_state s ≡ Frame x → Flags s x
+pub flags_wide : (s : List ℕ) (x : Supervisor) → read_wide_state s ≡ Ok x → Flags s x
 flags_wide s x e =
     let a = wide_accepted s x e in
     subst (Flags s) a.at (flags_at s (wide_instants s) a.inner (flags_read (replicate 30 0) s a.inner refl a.head a.read))

@@ -16,7 +16,8 @@ use Rattle.wire.proofs.Number.{number_bytes}
 use Rattle.wire.proofs.Whole.{first, whole, each}
 use Rattle.options.specs.Options.{zeros, valid_option}
 use Rattle.options.specs.Position.{position_cells}
-use Rattle.frame_state.specs.declared.StateRead.TheVariants.{Frame}
+use Rattle.std.specs.Prelude.{Ok}
+use Rattle.wire.proofs.Read.{within_range}
 use Rattle.frame_state.specs.StateFrame.{state_at, timers_valid, state_tests, state_valid, read_state}
 use Rattle.frame_state.proofs.Trips.{timer_valid, bytes_back, read_typed}
 use Rattle.instants.specs.Retimed.{timer_of, position_at, supervisor_at}
@@ -29,7 +30,7 @@ use Rattle.frame_wide_trips.proofs.Readings.{instant_lt, sample_lt}
 use Rattle.frame_wide_trips.proofs.Resized.{bytes_on, instants_lt, eight_bytes}
 use Rattle.frame_wide_trips.proofs.StateMarks.{frame_on, opened}
 use Rattle.frame_wide_trips.proofs.Written.{written}
-use Rattle.frame_wide_trips.proofs.Flags.{accepted, wide_accepted, timer_instead}
+use Rattle.frame_wide_trips.proofs.Flags.{wide_accepted, timer_instead}
 use Rattle.types.specs.declared.PositionSample.{PositionSample}
 
 module _ (s : List ℕ) (b : Bytes s) (h : frame_fault 10 304 s ≡ 0) where
@@ -92,11 +93,11 @@ module _ (s : List ℕ) (b : Bytes s) (h : frame_fault 10 304 s ≡ 0) where
   unfolding state_on
   on_bytes given = bytes_on 5 184 state_gaps given s b
 
-  bytes_again_at : (y : Supervisor) → read_state false (state_on (replicate 30 0) s) ≡ Frame y → wide_state_frame (supervisor_at (wide_instants s) y) ≡ s
+  bytes_again_at : (y : Supervisor) → read_state false (state_on (replicate 30 0) s) ≡ Ok y → wide_state_frame (supervisor_at (wide_instants s) y) ≡ s
   bytes_again_at y e =
       let none : List ℕ = replicate 30 0 in
       let f = whole 0 306 s (head_says 10 304 s h).1.1 in
-      let a = accepted (state_valid narrow && true) (state_at narrow none_raised) y (sym (opened narrow (frame_on s none)) ∙ ap (λ (l : List ℕ). read_state false (state_on none l)) f ∙ e) in
+      let a = within_range (state_valid narrow && true) (state_at narrow none_raised) y (sym (opened narrow (frame_on s none)) ∙ ap (λ (l : List ℕ). read_state false (state_on none l)) f ∙ e) in
       let kind5 = bytes_back false (state_on none s) y e (on_bytes none) in
       written y (wide_instants s)
       ∙ ap (λ (l : List ℕ). frame_head 10 304 ++ widened state_gaps (listed (wide_instants s)) (drop 4 l)) kind5
@@ -105,7 +106,7 @@ module _ (s : List ℕ) (b : Bytes s) (h : frame_fault 10 304 s ≡ 0) where
       ∙ f
 
 -- bytes, value, bytes: the very bytes
-pub bytes_again : (s : List ℕ) (x : Supervisor) → Bytes s → read_wide_state s ≡ Frame x → wide_state_frame x ≡ s
+pub bytes_again : (s : List ℕ) (x : Supervisor) → Bytes s → read_wide_state s ≡ Ok x → wide_state_frame x ≡ s
 bytes_again s x b e = let a = wide_accepted s x e in sym (ap wide_state_frame a.at) ∙ bytes_again_at s b a.head a.inner a.read
 
 -- ---- what was read is within its types
@@ -114,7 +115,7 @@ floats_fit : (n : ℕ) (o : Option PositionSample) → Within (position_cells o)
 floats_fit n None h = h
 floats_fit n (Some p) h = (lit< tt, h.1)
 
-typed_at : (s : List ℕ) (y : Supervisor) → Bytes s → read_state false (state_on (replicate 30 0) s) ≡ Frame y → TypedWide (supervisor_at (wide_instants s) y)
+typed_at : (s : List ℕ) (y : Supervisor) → Bytes s → read_state false (state_on (replicate 30 0) s) ≡ Ok y → TypedWide (supervisor_at (wide_instants s) y)
 unfolding supervisor_at wide_instants unlisted state_on
 typed_at s y b e =
     let lt = instants_lt state_gaps s b in
@@ -134,5 +135,5 @@ typed_at s y b e =
       epoch = lt 29;
     }
 
-pub typed_again : (s : List ℕ) (x : Supervisor) → Bytes s → read_wide_state s ≡ Frame x → TypedWide x
+pub typed_again : (s : List ℕ) (x : Supervisor) → Bytes s → read_wide_state s ≡ Ok x → TypedWide x
 typed_again s x b e = let a = wide_accepted s x e in subst TypedWide a.at (typed_at s a.inner b a.read)

@@ -12,14 +12,14 @@ use Rattle.triggers.specs.Update.{none_raised}
 use Rattle.supervisor.specs.declared.Supervisor.{Supervisor}
 use Rattle.supervisor.specs.Rules.{finite_stored}
 use Rattle.wire.specs.Fields.{u8_at, number_at, u16_at, u32_at, f32_at, flag_at, byte_below, le_bytes, le16, le32, elements_from, bytes_from}
-use Rattle.wire.specs.Frame.{frame_fault, frame_head}
+use Rattle.wire.specs.Frame.{frame_fault, frame_head, check_frame}
 use Rattle.wire.proofs.Fields.{u32_back}
-use Rattle.wire.proofs.Head.{head_says}
+use Rattle.wire.proofs.Head.{number_zero, head_says}
 use Rattle.wire.proofs.Whole.{whole}
 use Rattle.options.specs.Options.{zeros, valid_option, option_u32_at}
 use Rattle.options.specs.Position.{vec3_at, option_position_at}
 use Rattle.options.specs.Enums.{action_at, reason_at}
-use Rattle.frame_state.specs.declared.StateRead.TheVariants.{Frame, Refused}
+use Rattle.wire.proofs.Read.{in_range}
 use Rattle.frame_state.specs.StateFrame.{timer_at, triggers_at, arbiter_at, state_at, timers_valid, state_valid, raised_read, raised_valid, read_state}
 use Rattle.instants.specs.Retimed.{Instants, instead, position_at, supervisor_at}
 use Rattle.instants.specs.Retimed.{triggers_at as triggers_with}
@@ -185,15 +185,15 @@ module _ (given s : List ℕ) where
         }
 
 pub frame_on : (s given : List ℕ) → frame_fault 5 184 (state_on (elements_from 0 given 0 30) (bytes_from s 0 306)) ≡ 0
-unfolding frame_fault state_on narrowed state_gaps frame_head le16 le_bytes u8_at number_at u16_at
+unfolding check_frame state_on narrowed state_gaps frame_head le16 le_bytes u8_at number_at u16_at
 frame_on s given = refl
 
 -- what a kind 5 without a fault of its head is read as
-pub opened : (t : List ℕ) → frame_fault 5 184 t ≡ 0 → read_state false t ≡ cond (state_valid t && true) (Frame (state_at t none_raised)) (Refused 4)
+pub opened : (t : List ℕ) → frame_fault 5 184 t ≡ 0 → read_state false t ≡ in_range (state_valid t && true) (state_at t none_raised)
 unfolding read_state raised_valid raised_read
-opened t h = simp h
+opened t h = simp (number_zero _ h)
 
-with_instants_lem : (b : Bool) (i : Instants) (x : Supervisor) → cond b (Frame (supervisor_at i x)) (Refused 4) ≡ with_instants i (cond b (Frame x) (Refused 4))
+with_instants_lem : (b : Bool) (i : Instants) (x : Supervisor) → in_range b (supervisor_at i x) ≡ with_instants i (in_range b x)
 with_instants_lem true i x = refl
 with_instants_lem false i x = refl
 
@@ -208,7 +208,7 @@ marks_read given s w h =
     let x = state_at (state_on none (all given s)) none_raised in
     (λ j. read_state false (state_on (sym e j) (sym f j)))
     ∙ opened (state_on (row given s) (all given s)) (frame_on s given)
-    ∙ (λ j. cond (valid_on given s j && true) (Frame (state_on_lem given s w.each none_raised j)) (Refused 4))
+    ∙ (λ j. in_range (valid_on given s j && true) (state_on_lem given s w.each none_raised j))
     ∙ with_instants_lem (state_valid (state_on none (all given s)) && true) i x
     ∙ ap (with_instants i) (sym (opened (state_on none (all given s)) (frame_on s none)))
     ∙ ap (λ (l : List ℕ). with_instants i (read_state false (state_on none l))) f

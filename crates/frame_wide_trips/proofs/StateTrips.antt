@@ -9,12 +9,13 @@ use lib.ListN.{length, replicate}
 use Rattle.supervisor.specs.declared.Supervisor.{Supervisor}
 use Rattle.supervisor.specs.Rules.{finite_stored, Rules, RaisedFits}
 use Rattle.wire.specs.Fields.{u8_at, number_at, u16_at, le_bytes, le8, le16, le32, le_f32, le_flag}
-use Rattle.wire.specs.Frame.{frame_fault, frame_head}
+use Rattle.wire.specs.Frame.{frame_fault, frame_head, check_frame}
 use Rattle.wire.proofs.Number.{bytes_number}
 use Rattle.options.specs.Options.{le_option_u32}
 use Rattle.options.specs.Position.{le_vec3, le_option_position}
 use Rattle.options.specs.Enums.{le_action, le_reason}
-use Rattle.frame_state.specs.declared.StateRead.TheVariants.{Frame}
+use Rattle.std.specs.Prelude.{Ok}
+use Rattle.wire.proofs.Head.{number_zero}
 use Rattle.frame_state.specs.StateFrame.{read_state, le_timer, le_links, le_fence, le_battery, le_input, le_triggers, le_arbiter, state_frame, Typed}
 use Rattle.frame_state.proofs.Trips.{value_back}
 use Rattle.instants.specs.Retimed.{gcs_clear, rc_clear, gps_deg_set, gps_deg_clear, gps_lost_set, gps_lost_clear, ekf_set, ekf_clear, breach_set, breach_clear, alt_max_set, alt_max_clear, alt_min_set, alt_min_clear, stale_clear, warn_set, warn_clear, low_set, low_clear, crit_set, marg_set, marg_clear, infeas_set, invalid_clear, rc_set, Instants, instead, position_at, triggers_at, supervisor_at}
@@ -37,7 +38,7 @@ unfolding wide_state_frame instants_of listed widened state_gaps state_frame fra
 kind x = refl
 
 pub head : (x : Supervisor) → frame_fault 10 304 (wide_state_frame x) ≡ 0
-unfolding frame_fault wide_state_frame instants_of listed widened state_gaps state_frame frame_head le_triggers le_links le_fence le_battery le_input le_timer le_arbiter le_action le_reason le_option_u32 le_option_position le_vec3 le_f32 le8 le16 le32 le_bytes le_flag u8_at number_at u16_at
+unfolding check_frame wide_state_frame instants_of listed widened state_gaps state_frame frame_head le_triggers le_links le_fence le_battery le_input le_timer le_arbiter le_action le_reason le_option_u32 le_option_position le_vec3 le_f32 le8 le16 le32 le_bytes le_flag u8_at number_at u16_at
 head x = refl
 
 -- ---- the kind 5 of what was written: the state at 0
@@ -179,8 +180,8 @@ state_back x g =
     }
 
 -- value, bytes, value
-pub value_again : (x : Supervisor) → TypedWide x → Rules x → RaisedFits false x → read_wide_state (wide_state_frame x) ≡ Frame x
+pub value_again : (x : Supervisor) → TypedWide x → Rules x → RaisedFits false x → read_wide_state (wide_state_frame x) ≡ Ok x
 unfolding read_wide_state
 value_again x g r h =
     let inner = ap (read_state false) (at_zero x) ∙ value_back false (supervisor_at zeroes x) (zero_typed x g) (zero_rules x r) (zero_fits x h) in
-    simp (head x, inner) (ap Frame (state_back x g))
+    simp (number_zero _ (head x), inner) (ap Ok (state_back x g))

@@ -4,19 +4,17 @@ use Prim.Native.Nat.{ℕ, zero, suc, ◌+◌, ◌^◌, ◌<◌}
 use mathlib.Core.Path.{◌≡◌, ◌∙◌, ap, refl, sym, subst}
 use mathlib.Core.Bool.{Bool, true, false, cond}
 use mathlib.Core.List.{List, [], ◌∷◌, ◌++◌}
-use native.Mathlib.Omega.{arith}
-use lib.Dec.{T, eqb, lit<}
+use lib.Dec.{T, lit<}
 use lib.ListN.{get_or, drop, replicate}
 use lib.Ieee.{binary32, fits, of_bits}
 use lib.Ieee.Bits.{of_bits-fits}
-use borrow.Author.Tests.{eqb-true}
 use Rattle.types.specs.declared.GpsFix.{GpsFix}
 use Rattle.types.specs.declared.LandedState.{LandedState}
 use Rattle.types.specs.declared.Telemetry.{Telemetry}
 use Rattle.types.specs.Numbers.{fix_number, landed_number}
 use Rattle.wire.specs.Fields.{Bytes, u8_at, number_at, flag_at, u32_at, f32_at, le_bytes, le16, le32, le_f32, bytes_from}
 use Rattle.wire.specs.Cell.{Within, U16, F32, sorts_of, NoNan, nan_rewritten, widths}
-use Rattle.wire.specs.Frame.{frame_fault, frame_head}
+use Rattle.wire.specs.Frame.{check_frame, frame_number, frame_fault, frame_head}
 use Rattle.wire.proofs.Fields.{f32_fits}
 use Rattle.wire.proofs.Head.{head_says, head_bytes}
 use Rattle.wire.proofs.Number.{number_bytes}
@@ -24,8 +22,9 @@ use Rattle.wire.proofs.Cells.{nan_free}
 use Rattle.wire.proofs.Whole.{whole, each}
 use Rattle.options.specs.Options.{zeros, valid_option, option_u8_at, option_f32_at}
 use Rattle.options.specs.Position.{vec3_at, option_position_at, position_cells}
-use Rattle.frame_telemetry.specs.declared.TelemetryRead.{TelemetryRead}
-use Rattle.frame_telemetry.specs.declared.TelemetryRead.TheVariants.{Frame, Refused}
+use Rattle.std.specs.Prelude.{Result, Ok, Err}
+use Rattle.wire.specs.declared.FrameError.{FrameError}
+use Rattle.wire.proofs.Read.{behind_head, within_range}
 use Rattle.frame_telemetry.specs.Readings.{fix_at, option_gps_at, gps_cells, stamped_f32_at, stamped_f32_cells}
 use Rattle.frame_telemetry.specs.TelemetryFrame.{telemetry_at, telemetry_tests, telemetry_valid, read_telemetry, battery_cells, status_cells, telemetry_cells}
 use Rattle.frame_telemetry_trips.proofs.Trips.{within_joined, bytes_back}
@@ -42,26 +41,22 @@ use Rattle.frame_wide_trips.proofs.TelemetryMarks.{frame_on, opened}
 use Rattle.frame_wide_trips.proofs.TelemetryTrips.{written}
 use Rattle.types.specs.declared.Stamped.{Stamped}
 
--- what an accepted body says
-accepted : (b : Bool) (u t : Telemetry) → cond b (Frame u) (Refused 4) ≡ Frame t → (b ≡ true) × (u ≡ t)
-accepted true u t e = (refl, cc)
-accepted false u t e = let z : ◌≡◌ {A = ℕ} 0 1 = cc in absurd (omega arith)
-
 -- what an accepted kind 9 says
 pub record Accepted (s : List ℕ) (t : Telemetry) : Type 0 where
   pub head : frame_fault 9 148 s ≡ 0
   pub inner : Telemetry
-  pub read : read_telemetry (telemetry_on (replicate 11 0) s) ≡ Frame inner
+  pub read : read_telemetry (telemetry_on (replicate 11 0) s) ≡ Ok inner
   pub at : telemetry_with (wide_stamps s) inner ≡ t
 
-pub wide_accepted : (s : List ℕ) (t : Telemetry) → read_wide_telemetry s ≡ Frame t → Accepted s t
+pub wide_accepted : (s : List ℕ) (t : Telemetry) → read_wide_telemetry s ≡ Ok t → Accepted s t
 unfolding read_wide_telemetry
-wide_accepted s t e = go (eqb (frame_fault 9 148 s) 0) refl (read_telemetry (telemetry_on (replicate 11 0) s)) refl e
+wide_accepted s t e =
+    let a = behind_head (check_frame 9 148 s) (with_stamps (wide_stamps s) (read_telemetry (telemetry_on (replicate 11 0) s))) t e in
+    go (read_telemetry (telemetry_on (replicate 11 0) s)) refl a.1 (ap frame_number a.0)
   where
-    go : (b : Bool) → eqb (frame_fault 9 148 s) 0 ≡ b → (r : TelemetryRead) → read_telemetry (telemetry_on (replicate 11 0) s) ≡ r → cond b (with_stamps (wide_stamps s) r) (Refused (frame_fault 9 148 s)) ≡ Frame t → Accepted s t
-    go true p (TelemetryRead.Frame y) q h = record { head = eqb-true (frame_fault 9 148 s) 0 p; inner = y; read = q; at = cc }
-    go true p (TelemetryRead.Refused n) q h = let z : ◌≡◌ {A = ℕ} 0 1 = cc in absurd (omega arith)
-    go false p r q h = let z : ◌≡◌ {A = ℕ} 0 1 = cc in absurd (omega arith)
+    go : (r : Result Telemetry FrameError) → read_telemetry (telemetry_on (replicate 11 0) s) ≡ r → with_stamps (wide_stamps s) r ≡ Ok t → frame_fault 9 148 s ≡ 0 → Accepted s t
+    go (Ok y) q h p = record { head = p; inner = y; read = q; at = cc }
+    go (Err d) q h p = cc
 
 long : (t : Telemetry) → widths (wide_sorts (sorts_of (telemetry_cells t))) ≡ 146
 unfolding telemetry_cells battery_cells status_cells
@@ -115,12 +110,12 @@ module _ (s : List ℕ) (b : Bytes s) (h : frame_fault 9 148 s ≡ 0) where
       ++ bytes_from s 149 1))))))))))))))))))))
 
   rewritten :
-      (u t : Telemetry) → read_telemetry (telemetry_on (replicate 11 0) s) ≡ Frame u →
+      (u t : Telemetry) → read_telemetry (telemetry_on (replicate 11 0) s) ≡ Ok u →
       wide_telemetry_frame (telemetry_with (wide_stamps s) u) ≡ nan_rewritten (U16 ∷ U16 ∷ wide_sorts (sorts_of (telemetry_cells t))) s 0
   rewritten u t e =
       let none : List ℕ = replicate 11 0 in
       let f = whole 0 150 s (head_says 9 148 s h).1.1 in
-      let a = accepted (telemetry_valid narrow) (telemetry_at narrow) u (sym (opened narrow (frame_on none s)) ∙ ap (λ (l : List ℕ). read_telemetry (telemetry_on none l)) f ∙ e) in
+      let a = within_range (telemetry_valid narrow) (telemetry_at narrow) u (sym (opened narrow (frame_on none s)) ∙ ap (λ (l : List ℕ). read_telemetry (telemetry_on none l)) f ∙ e) in
       let kind3 = bytes_back (telemetry_on none s) u (on_bytes none) e in
       written u (wide_stamps s)
       ∙ ap (λ (l : List ℕ). frame_head 9 148 ++ widened telemetry_gaps (stamps_listed (wide_stamps s)) (drop 4 l)) kind3
@@ -129,12 +124,12 @@ module _ (s : List ℕ) (b : Bytes s) (h : frame_fault 9 148 s ≡ 0) where
 
 -- bytes, value, bytes: each NaN's bits become 7FC00000
 pub bytes_again :
-    (s : List ℕ) (t : Telemetry) → Bytes s → read_wide_telemetry s ≡ Frame t → wide_telemetry_frame t ≡ nan_rewritten (U16 ∷ U16 ∷ wide_sorts (sorts_of (telemetry_cells t))) s 0
+    (s : List ℕ) (t : Telemetry) → Bytes s → read_wide_telemetry s ≡ Ok t → wide_telemetry_frame t ≡ nan_rewritten (U16 ∷ U16 ∷ wide_sorts (sorts_of (telemetry_cells t))) s 0
 bytes_again s t b e = let a = wide_accepted s t e in sym (ap wide_telemetry_frame a.at) ∙ rewritten s b a.head a.inner t a.read
 
 -- the very bytes, where no float is a NaN
 pub bytes_same :
-    (s : List ℕ) (t : Telemetry) → Bytes s → read_wide_telemetry s ≡ Frame t → NoNan (U16 ∷ U16 ∷ wide_sorts (sorts_of (telemetry_cells t))) s 0 → wide_telemetry_frame t ≡ s
+    (s : List ℕ) (t : Telemetry) → Bytes s → read_wide_telemetry s ≡ Ok t → NoNan (U16 ∷ U16 ∷ wide_sorts (sorts_of (telemetry_cells t))) s 0 → wide_telemetry_frame t ≡ s
 bytes_same s t b e n =
     bytes_again s t b e
     ∙ nan_free (U16 ∷ U16 ∷ wide_sorts (sorts_of (telemetry_cells t))) s 0 b n
@@ -278,7 +273,7 @@ stamps_fit l u h (suc (suc (suc (suc (suc (suc (suc (suc (suc (suc zero)))))))))
 stamps_fit l u h (suc (suc (suc (suc (suc (suc (suc (suc (suc (suc (suc k))))))))))) = lit< tt
 
 typed_at :
-    (s : List ℕ) (u : Telemetry) → Bytes s → frame_fault 9 148 s ≡ 0 → read_telemetry (telemetry_on (replicate 11 0) s) ≡ Frame u →
+    (s : List ℕ) (u : Telemetry) → Bytes s → frame_fault 9 148 s ≡ 0 → read_telemetry (telemetry_on (replicate 11 0) s) ≡ Ok u →
     TypedTelemetry (telemetry_with (wide_stamps s) u)
 unfolding wide_stamps telemetry_on
 typed_at s u b h e =
@@ -286,7 +281,7 @@ typed_at s u b h e =
     let n = telemetry_on none s in
     let f = whole 0 150 s (head_says 9 148 s h).1.1 in
     let sound : frame_fault 3 104 n ≡ 0 = subst (λ (l : List ℕ). frame_fault 3 104 (telemetry_on none l) ≡ 0) f (frame_on none s) in
-    let a = accepted (telemetry_valid n) (telemetry_at n) u (sym (opened n sound) ∙ e) in
+    let a = within_range (telemetry_valid n) (telemetry_at n) u (sym (opened n sound) ∙ e) in
     record {
       stamps = stamps_fit (instants_at 8 telemetry_gaps (drop 4 s)) u (instants_lt telemetry_gaps s b);
       others =
@@ -294,5 +289,5 @@ typed_at s u b h e =
           (others_fit n (wide_stamps s) (bytes_on 3 104 telemetry_gaps none s b));
     }
 
-pub typed_again : (s : List ℕ) (t : Telemetry) → Bytes s → read_wide_telemetry s ≡ Frame t → TypedTelemetry t
+pub typed_again : (s : List ℕ) (t : Telemetry) → Bytes s → read_wide_telemetry s ≡ Ok t → TypedTelemetry t
 typed_again s t b e = let a = wide_accepted s t e in subst TypedTelemetry a.at (typed_at s a.inner b a.head a.read)

@@ -2,7 +2,7 @@
 use Rattle.std.specs.Prelude.{Option, Some, None}
 use Prim.Native.Nat.{ℕ, ◌+◌, ◌^◌, ◌<◌, min}
 use mathlib.Core.Path.{◌≡◌, ◌∙◌, ap, refl, sym}
-use mathlib.Core.Bool.{Bool, true, false, cond, ◌&&◌}
+use mathlib.Core.Bool.{Bool, true, false, ◌&&◌}
 use mathlib.Core.List.{List, ◌++◌}
 use lib.Ieee.{Float}
 use lib.ListN.{get_or, replicate}
@@ -11,13 +11,13 @@ use Rattle.types.specs.declared.GpsFix.{GpsFix}
 use Rattle.types.specs.declared.LandedState.{LandedState}
 use Rattle.types.specs.declared.Telemetry.{Telemetry}
 use Rattle.wire.specs.Fields.{u8_at, number_at, u16_at, u32_at, f32_at, flag_at, byte_below, le_bytes, le16, le32, elements_from, bytes_from}
-use Rattle.wire.specs.Frame.{frame_fault, frame_head}
+use Rattle.wire.specs.Frame.{frame_fault, frame_head, check_frame}
 use Rattle.wire.proofs.Fields.{u32_back}
-use Rattle.wire.proofs.Head.{head_says}
+use Rattle.wire.proofs.Head.{number_zero, head_says}
 use Rattle.wire.proofs.Whole.{whole}
 use Rattle.options.specs.Options.{zeros, valid_option, option_u8_at, option_u32_at, option_f32_at}
 use Rattle.options.specs.Position.{vec3_at, option_position_at}
-use Rattle.frame_telemetry.specs.declared.TelemetryRead.TheVariants.{Frame, Refused}
+use Rattle.wire.proofs.Read.{in_range}
 use Rattle.frame_telemetry.specs.Readings.{fix_at, landed_at, option_gps_at, stamped_f32_at, stamped_bool_at, stamped_landed_at}
 use Rattle.frame_telemetry.specs.TelemetryFrame.{telemetry_at, telemetry_tests, telemetry_valid, read_telemetry}
 use Rattle.instants.specs.Retimed.{Stamps, instead, position_at, gps_at, value_at}
@@ -112,15 +112,15 @@ module _ (given s : List ℕ) where
         }
 
 pub frame_on : (given s : List ℕ) → frame_fault 3 104 (telemetry_on (elements_from 0 given 0 11) (bytes_from s 0 150)) ≡ 0
-unfolding frame_fault telemetry_on narrowed telemetry_gaps frame_head le16 le_bytes u8_at number_at u16_at
+unfolding check_frame telemetry_on narrowed telemetry_gaps frame_head le16 le_bytes u8_at number_at u16_at
 frame_on given s = refl
 
 -- what a kind 3 without a fault of its head is read as
-pub opened : (t : List ℕ) → frame_fault 3 104 t ≡ 0 → read_telemetry t ≡ cond (telemetry_valid t) (Frame (telemetry_at t)) (Refused 4)
+pub opened : (t : List ℕ) → frame_fault 3 104 t ≡ 0 → read_telemetry t ≡ in_range (telemetry_valid t) (telemetry_at t)
 unfolding read_telemetry
-opened t h = simp h
+opened t h = simp (number_zero _ h)
 
-with_stamps_lem : (b : Bool) (j : Stamps) (t : Telemetry) → cond b (Frame (telemetry_with j t)) (Refused 4) ≡ with_stamps j (cond b (Frame t) (Refused 4))
+with_stamps_lem : (b : Bool) (j : Stamps) (t : Telemetry) → in_range b (telemetry_with j t) ≡ with_stamps j (in_range b t)
 with_stamps_lem true j t = refl
 with_stamps_lem false j t = refl
 
@@ -135,7 +135,7 @@ marks_read given s w h =
     let t = telemetry_at (telemetry_on none (all given s)) in
     (λ j. read_telemetry (telemetry_on (sym e j) (sym f j)))
     ∙ opened (telemetry_on (row given s) (all given s)) (frame_on given s)
-    ∙ (λ j. cond (valid_on given s j) (Frame (fields_on given s w.each j)) (Refused 4))
+    ∙ (λ j. in_range (valid_on given s j) (fields_on given s w.each j))
     ∙ with_stamps_lem (telemetry_valid (telemetry_on none (all given s))) i t
     ∙ ap (with_stamps i) (sym (opened (telemetry_on none (all given s)) (frame_on none s)))
     ∙ ap (λ (l : List ℕ). with_stamps i (read_telemetry (telemetry_on none l))) f

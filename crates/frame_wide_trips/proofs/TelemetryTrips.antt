@@ -4,9 +4,10 @@ use mathlib.Core.List.{◌++◌}
 use lib.ListN.{length, drop, replicate}
 use Rattle.types.specs.declared.Telemetry.{Telemetry}
 use Rattle.wire.specs.Fields.{u8_at, number_at, u16_at, le_bytes, le8, le16, le32, le_f32, le_flag}
-use Rattle.wire.specs.Frame.{frame_fault, frame_head}
+use Rattle.wire.specs.Frame.{frame_fault, frame_head, check_frame}
 use Rattle.wire.proofs.Number.{bytes_number}
-use Rattle.frame_telemetry.specs.declared.TelemetryRead.TheVariants.{Frame}
+use Rattle.std.specs.Prelude.{Ok}
+use Rattle.wire.proofs.Head.{number_zero}
 use Rattle.frame_telemetry.specs.TelemetryFrame.{read_telemetry, battery_cells, status_cells, telemetry_cells, telemetry_frame}
 use Rattle.frame_telemetry_trips.proofs.Trips.{value_back}
 use Rattle.instants.specs.Retimed.{Stamps, telemetry_at}
@@ -46,7 +47,7 @@ unfolding wide_telemetry_frame stamps_of stamps_listed widened telemetry_gaps te
 kind t = refl
 
 pub head : (t : Telemetry) → frame_fault 9 148 (wide_telemetry_frame t) ≡ 0
-unfolding frame_fault wide_telemetry_frame stamps_of stamps_listed widened telemetry_gaps telemetry_frame telemetry_cells battery_cells status_cells frame_head le8 le_flag le_bytes le16 le32 le_f32 u8_at number_at u16_at
+unfolding check_frame wide_telemetry_frame stamps_of stamps_listed widened telemetry_gaps telemetry_frame telemetry_cells battery_cells status_cells frame_head le8 le_flag le_bytes le16 le32 le_f32 u8_at number_at u16_at
 head t = refl
 
 -- ---- the kind 3 of what was written: the telemetry at 0
@@ -92,8 +93,8 @@ stamps_back t g =
     }
 
 -- value, bytes, value
-pub value_again : (t : Telemetry) → TypedTelemetry t → read_wide_telemetry (wide_telemetry_frame t) ≡ Frame t
+pub value_again : (t : Telemetry) → TypedTelemetry t → read_wide_telemetry (wide_telemetry_frame t) ≡ Ok t
 unfolding read_wide_telemetry
 value_again t g =
     let inner = ap read_telemetry (at_zero t) ∙ value_back (telemetry_at zero_stamps t) g.others in
-    simp (head t, inner) (ap Frame (stamps_back t g))
+    simp (number_zero _ (head t), inner) (ap Ok (stamps_back t g))

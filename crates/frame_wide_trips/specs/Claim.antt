@@ -1,5 +1,5 @@
 -- Document 02, L7: what holds of the frames of kinds 9 and 10. Assumes nothing.
-use Rattle.std.specs.Prelude.{ℕ, ◌^◌, ◌<◌, ◌≡◌, false, List, [], ◌∷◌, ◌++◌, length, get_or, drop, replicate}
+use Rattle.std.specs.Prelude.{ℕ, ◌^◌, ◌<◌, ◌≡◌, false, List, [], ◌∷◌, ◌++◌, length, get_or, drop, replicate, Ok}
 use Rattle.types.specs.declared.Telemetry.{Telemetry}
 use Rattle.timers.specs.Timer.{started}
 use Rattle.triggers.specs.Families.{is_present}
@@ -10,9 +10,7 @@ use Rattle.wire.specs.Fields.{Bytes, u16_at, flag_at}
 use Rattle.wire.specs.Cell.{Within, Sort, U8, Flag, U16, U32, F32, sorts_of, NoNan, nan_rewritten}
 use Rattle.wire.specs.Frame.{frame_fault, frame_head}
 use Rattle.options.specs.Position.{position_cells}
-use Rattle.frame_state.specs.declared.StateRead.{StateRead}
 use Rattle.frame_state.specs.StateFrame.{read_state, state_frame}
-use Rattle.frame_telemetry.specs.declared.TelemetryRead.{TelemetryRead}
 use Rattle.frame_telemetry.specs.TelemetryFrame.{read_telemetry, telemetry_cells, telemetry_frame}
 use Rattle.instants.specs.Retimed.{TimerName, timer_of, Instants, Stamps, position_at, supervisor_at, telemetry_at, third_fault, instants_after}
 use Rattle.instants.specs.Own.{own, position_stamp, stamps_of}
@@ -56,8 +54,8 @@ pub record StateLaws : Type 0 where
   -- a state at other instants is written as its kind 5 with these in eight bytes
   pub written : (x : Supervisor) (i : Instants) → wide_state_frame (supervisor_at i x) ≡ wide_at i x
   -- the flags are those of the state that is read, with marks or with its own instants
-  pub flags_read : (given s : List ℕ) (x : Supervisor) → length given ≡ 30 → frame_fault 10 304 s ≡ 0 → read_state false (state_on given s) ≡ StateRead.Frame x → Flags s x
-  pub flags_wide : (s : List ℕ) (x : Supervisor) → read_wide_state s ≡ StateRead.Frame x → Flags s x
+  pub flags_read : (given s : List ℕ) (x : Supervisor) → length given ≡ 30 → frame_fault 10 304 s ≡ 0 → read_state false (state_on given s) ≡ Ok x → Flags s x
+  pub flags_wide : (s : List ℕ) (x : Supervisor) → read_wide_state s ≡ Ok x → Flags s x
   -- so the instants after a step follow from the bytes before it
   pub next_is :
       (s : List ℕ) (i : Instants) (j : Stamps) (x : Supervisor) (r : Stepped) → Flags s x →
@@ -67,10 +65,10 @@ pub record StateLaws : Type 0 where
   pub kind : (x : Supervisor) → u16_at (wide_state_frame x) 2 ≡ 10
   pub head : (x : Supervisor) → frame_fault 10 304 (wide_state_frame x) ≡ 0
   -- value, bytes, value
-  pub value_back : (x : Supervisor) → TypedWide x → Rules x → RaisedFits false x → read_wide_state (wide_state_frame x) ≡ StateRead.Frame x
+  pub value_back : (x : Supervisor) → TypedWide x → Rules x → RaisedFits false x → read_wide_state (wide_state_frame x) ≡ Ok x
   -- bytes, value, bytes: the very bytes; and what is read is within its types
-  pub bytes_back : (s : List ℕ) (x : Supervisor) → Bytes s → read_wide_state s ≡ StateRead.Frame x → wide_state_frame x ≡ s
-  pub read_typed : (s : List ℕ) (x : Supervisor) → Bytes s → read_wide_state s ≡ StateRead.Frame x → TypedWide x
+  pub bytes_back : (s : List ℕ) (x : Supervisor) → Bytes s → read_wide_state s ≡ Ok x → wide_state_frame x ≡ s
+  pub read_typed : (s : List ℕ) (x : Supervisor) → Bytes s → read_wide_state s ≡ Ok x → TypedWide x
 
 -- the cells of a kind 9 by those of a kind 3, where each number of four bytes is an instant: it stands for two such
 abbrev pub wide_sorts : List Sort → List Sort
@@ -103,12 +101,12 @@ pub record TelemetryLaws : Type 0 where
   pub kind : (t : Telemetry) → u16_at (wide_telemetry_frame t) 2 ≡ 9
   pub head : (t : Telemetry) → frame_fault 9 148 (wide_telemetry_frame t) ≡ 0
   -- value, bytes, value
-  pub value_back : (t : Telemetry) → TypedTelemetry t → read_wide_telemetry (wide_telemetry_frame t) ≡ TelemetryRead.Frame t
+  pub value_back : (t : Telemetry) → TypedTelemetry t → read_wide_telemetry (wide_telemetry_frame t) ≡ Ok t
   -- bytes, value, bytes, up to the bits of a NaN; the very bytes, where no float is one
   pub bytes_back :
-      (s : List ℕ) (t : Telemetry) → Bytes s → read_wide_telemetry s ≡ TelemetryRead.Frame t →
+      (s : List ℕ) (t : Telemetry) → Bytes s → read_wide_telemetry s ≡ Ok t →
       wide_telemetry_frame t ≡ nan_rewritten (U16 ∷ U16 ∷ wide_sorts (sorts_of (telemetry_cells t))) s 0
   pub bytes_same :
-      (s : List ℕ) (t : Telemetry) → Bytes s → read_wide_telemetry s ≡ TelemetryRead.Frame t → NoNan (U16 ∷ U16 ∷ wide_sorts (sorts_of (telemetry_cells t))) s 0 → wide_telemetry_frame t ≡ s
+      (s : List ℕ) (t : Telemetry) → Bytes s → read_wide_telemetry s ≡ Ok t → NoNan (U16 ∷ U16 ∷ wide_sorts (sorts_of (telemetry_cells t))) s 0 → wide_telemetry_frame t ≡ s
   -- and what is read is within its types
-  pub read_typed : (s : List ℕ) (t : Telemetry) → Bytes s → read_wide_telemetry s ≡ TelemetryRead.Frame t → TypedTelemetry t
+  pub read_typed : (s : List ℕ) (t : Telemetry) → Bytes s → read_wide_telemetry s ≡ Ok t → TypedTelemetry t

@@ -1,22 +1,30 @@
 -- A frame written into a slice of just its length. Assumes nothing.
-use Prim.Native.Nat.{◌+◌}
+use native.Mathlib.Omega.{arith}
+use mathlib.Core.List.{List, append-nil}
+use mathlib.Core.Path.{◌≡◌, ◌∙◌, ap, refl}
+use borrow.Author.Tests.{le-ltb}
+use Prim.Native.Nat.{ℕ, ◌+◌}
 use mathlib.Core.Bool.{Bool, true, false}
-use mathlib.Core.List.{append-nil}
-use mathlib.Core.Path.{◌≡◌}
-use lib.ListN.{replicate}
-use Rattle.types.specs.declared.Decision.{Decision}
+use lib.ListN.{length, take, replicate}
+use Rattle.std.specs.Prelude.{Ok, ◌++◌, min}
+use Rattle.std.proofs.lemmas.List.{drop_all, length-take}
 use Rattle.supervisor.specs.declared.Supervisor.{Supervisor}
-use Rattle.wire.specs.Frame.{frame_written}
-use Rattle.frame_decision.specs.DecisionFrame.{decision_frame}
-use Rattle.frame_decision.proofs.Size.{size as decision_size}
 use Rattle.frame_state.specs.StateFrame.{state_length, state_frame}
-use Rattle.frame_state.proofs.Size.{size as state_size_lem}
+use Rattle.frame_state.proofs.Size.{size}
+use Rattle.wire.specs.Frame.{check_room, frame_written}
 
-pub filled_state : (keeps : Bool) (x : Supervisor) → frame_written (state_frame keeps x) (replicate (2 + state_length keeps) 0) ≡ state_frame keeps x
-unfolding frame_written
-filled_state true x = rw (state_size_lem true x) (append-nil (state_frame true x))
-filled_state false x = rw (state_size_lem false x) (append-nil (state_frame false x))
+pub room : (f s : List ℕ) → length s ≡ length f → check_room f s ≡ Ok tt
+unfolding check_room
+room f s h = rw (le-ltb (length s) (length f) (omega arith)) (λ i. Ok tt)
 
-pub filled_decision : (d : Decision) → frame_written (decision_frame d) (replicate 95 0) ≡ decision_frame d
+pub filled : (f s : List ℕ) → length s ≡ length f → frame_written f s ≡ f
 unfolding frame_written
-filled_decision d = rw (decision_size d) (append-nil (decision_frame d))
+filled f s h = rw (le-ltb (length s) (length f) (omega arith)) (ap (λ l. f ++ l) (drop_all (length f) s (omega arith)) ∙ append-nil f)
+
+-- the first bytes of the longer frame are as many as either kind has
+pub sliced : (keeps : Bool) (x : Supervisor) (n : ℕ) → n ≡ 2 + state_length keeps → length {A = ℕ} (take n (replicate 194 0)) ≡ length (state_frame keeps x)
+sliced keeps x n h = rw (length-take {A = ℕ} n (replicate 194 0), size keeps x, h) (fits keeps)
+  where
+    fits : (keeps : Bool) → min (2 + state_length keeps) 194 ≡ 2 + state_length keeps
+    fits true = refl
+    fits false = refl

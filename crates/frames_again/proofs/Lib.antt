@@ -1,2 +1,3 @@
--- A frame in a slice of its own length.
+-- A frame in a slice of its own length, and what fits one after a step.
 pub mod Filled
+pub mod Stepped

@@ -1,19 +1,22 @@
 -- An array of 16 that holds a list and then one value in all other places; the corners held, and the distance by their count. Assumes nothing.
-use mathlib.Core.Path.{◌≡◌, refl, sym, ◌∙◌}
+use mathlib.Core.Path.{◌≡◌, sym, ap, ◌∙◌}
 use Prim.Native.Nat.{ℕ, suc, ◌+◌, ◌-◌, ◌≤◌, ◌<◌}
 use native.Mathlib.Nat.{not-suc-le-zero, le_of_suc-le-suc, eq-or-lt_of_le}
 use native.Mathlib.Numerals.{add-one}
 use native.Mathlib.Omega.{arith}
-use mathlib.Core.Bool.{Bool, true, false}
+use mathlib.Core.Bool.{Bool, false}
 use mathlib.Core.Logic.{◌⊎◌, inl, inr}
 use mathlib.Core.List.{List, [], ◌∷◌, ◌++◌, reverse, reverse-cons}
-use lib.ListN.{length, get_or, take, set, replicate, length-reverse, get_or-append}
-use lib.Seq.{get_or_at, get_or-take, length-take-le, take_all, take-suc, set_at, append_snoc}
+use lib.ListN.{length, get_or, take, drop, set, replicate, length-reverse, get_or-append}
+use lib.Seq.{get_or_at, length-take-le, take_all, take-suc, set_at, append_snoc}
 use borrow.Author.Tests.{lt-ltb, le-ltb}
 use lib.Ieee.{Float, inf}
 use Rattle.types.specs.declared.Point2.{Point2}
 use Rattle.corners.specs.Ring.{beside, sides}
-use Rattle.geometry.specs.Polygon.{held_order, place_held}
+use Rattle.corners.proofs.Around.{pairs, sides_of}
+use Rattle.corners.proofs.Places.{nowhere}
+use Rattle.std.proofs.lemmas.List.{drop-replicate}
+use Rattle.geometry.specs.Polygon.{zero_point, held_order, normalize_ccw}
 use Rattle.geometry.specs.Distance.{minus_one, no_side, nearest_from, edge_signed_distance_by, nearest_by}
 
 module _ {A : Type 0} where
@@ -43,26 +46,9 @@ module _ {A : Type 0} where
   pub stored : (m : List A) (z : A) (i n : ℕ) → length m ≡ n → i ≡ n → take i m ++ replicate (16 - i) z ≡ m ++ replicate (16 - n) z
   stored m z i n e k = rw (k, take_all n m (omega arith))
 
-pub length-order : (b : Bool) (l : List Point2) → length (held_order b l) ≡ length l
-length-order true l = refl
-length-order false l = length-reverse l
-
-get_or-order : (b : Bool) (l : List Point2) (i : ℕ) (d : Point2) → i < length l → get_or (held_order b l) i d ≡ get_or l (place_held b (length l) i) d
-get_or-order true l i d h = refl
-get_or-order false l i d h = get_d_reverse l i d h
-
-place_less : (b : Bool) (n i : ℕ) → i < n → place_held b n i < n
-place_less true n i h = h
-place_less false n i h = omega arith
-
--- the corner that is held at i
-pub held_at : (b : Bool) (v : List Point2) (n i : ℕ) (d : Point2) → n ≤ length v → i < n → get_or v (place_held b n i) d ≡ get_or (held_order b (take n v)) i d
-held_at b v n i d h k =
-    let f : length (take n v) ≡ n = length-take-le n v h in
-    sym (get_or-order b (take n v) i d (omega arith) ∙ rw f (get_or-take n v (place_held b n i) d (place_less b n i k)))
-
-pub held_count : (b : Bool) (v : List Point2) (n : ℕ) → n ≤ length v → length (held_order b (take n v)) ≡ n
-held_count b v n h = length-order b (take n v) ∙ length-take-le n v h
+-- corners in an array of zeros
+pub held_as : (ccw : Bool) (v h : List Point2) → h ≡ held_order ccw v → record { verts = h ++ drop (length v) (replicate 16 zero_point); len = length v } ≡ normalize_ccw ccw v
+held_as ccw v h e = rw (e, drop-replicate (length v) 16 zero_point)
 
 -- the distance by the count of corners
 pub distance_few : (l : List Point2) (ms : List Float) (p : Point2) → length l < 3 → nearest_by l ms p ≡ no_side minus_one
@@ -73,3 +59,9 @@ pub distance_many : (l : List Point2) (ms : List Float) (p : Point2) → 3 ≤ l
     → nearest_by l ms p ≡ nearest_from (edge_signed_distance_by p) 0 (no_side (inf false)) (beside (sides l) ms)
 unfolding nearest_by
 distance_many l ms p h = rw (le-ltb (length l) 3 h)
+
+pub distance_round : (v : List Point2) (ms : List Float) (p : Point2) → 3 ≤ length v
+    → nearest_by v ms p ≡ nearest_from (edge_signed_distance_by p) 0 (no_side (inf false)) (beside (pairs (get_or v 0 nowhere) (take (length v - 1) (drop 1 v) ++ get_or v 0 nowhere ∷ [])) ms)
+distance_round v ms p h =
+    distance_many v ms p h
+    ∙ ap (λ (ss : List (Point2 × Point2)). nearest_from (edge_signed_distance_by p) 0 (no_side (inf false)) (beside ss ms)) (sides_of v nowhere (omega arith))

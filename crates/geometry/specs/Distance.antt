@@ -1,5 +1,5 @@
 -- A polygon's ring of corners, and a point's distance from its sides. The quotations are of document 01's paragraph on geometry. Assumes nothing.
-use Rattle.std.specs.Prelude.{ℕ, ◌+◌, ◌-◌, Bool, false, cond, ltb, length, take, get_or, replicate, Float, Option, Some, None}
+use Rattle.std.specs.Prelude.{ℕ, ◌+◌, ◌-◌, Bool, false, cond, ltb, length, take, replicate, slice_get, Float, Option}
 use mathlib.Core.List.{List, [], ◌∷◌, ◌++◌, map, foldl}
 use Rattle.std.specs.Float.{inf, binary32}
 use Rattle.std.specs.Float.Ieee.{add, sub, mul, div, neg, lt, le, of_bits}
@@ -7,7 +7,6 @@ use Rattle.float32.specs.Binary32.{zero_f}
 use Rattle.float32.specs.Sqrt.{square_root}
 use Rattle.types.specs.declared.Point2.{Point2}
 use Rattle.corners.specs.Ring.{beside, sides}
-use Rattle.geometry.specs.Polygon.{zero_point}
 use Rattle.geometry.specs.declared.ConvexPolygon.{ConvexPolygon}
 use Rattle.geometry.specs.declared.SideLengths.{SideLengths}
 use Rattle.geometry.specs.declared.FenceDistance.{FenceDistance}
@@ -25,7 +24,7 @@ ring_of p = take p.len p.verts
 
 -- The Rust's vertex, which panics from the place 16 on.
 unfoldable pub vertex : ConvexPolygon → ℕ → Option Point2
-vertex p i = cond (ltb i 16) (Some (get_or p.verts i zero_point)) None
+vertex p i = slice_get p.verts i
 
 unfoldable pub side_length : Point2 × Point2 → Float
 side_length s =

@@ -1,5 +1,5 @@
 -- The laws of the inside test.
 pub mod Stops
-pub mod Numbers
+pub mod Held
 pub mod Rows
 pub mod Claim

@@ -1,13 +1,16 @@
 -- Document 02, L9: "an inside test over an accepted polygon that stops at the first side with negative distance and reports the sides it read".
 -- Assumes nothing.
-use Rattle.std.specs.Prelude.{ℕ, zero, suc, ◌+◌, ◌-◌, ◌*◌, ◌<◌, ◌≤◌, Bool, true, false, cond, List, [], ◌∷◌, ◌++◌, map, ◌⊎◌, ◌≡◌, ltb, Float, length, get_or, replicate}
+use Rattle.std.specs.Prelude.{ℕ, ◌+◌, ◌<◌, ◌≤◌, Bool, true, false, ◌||◌, cond, List, [], ◌∷◌, map, ◌⊎◌, ◌≡◌, ltb, Float, length, get_or}
 use Rattle.std.specs.Float.{nan, binary32}
 use Rattle.std.specs.Float.Ieee.{sub, mul, div, lt}
 use Rattle.float32.specs.Binary32.{zero_f}
 use Rattle.types.specs.declared.Point2.{Point2}
 use Rattle.corners.specs.Ring.{sides}
+use Rattle.geometry.specs.Polygon.{zero_point}
 use Rattle.geometry.specs.Distance.{least_length, side_length, edge_signed_distance, contains}
 use Rattle.inside.specs.declared.Inside.{Inside}
+use Rattle.inside.specs.declared.Side.{Side}
+use Rattle.inside.specs.declared.Sides.{Sides}
 
 -- the sides of a list, of which k were read before it
 abbrev pub stop_from : {A : Type 0} → (A → Float) → ℕ → List A → Inside
@@ -18,42 +21,39 @@ stop_from f k (s ∷ ss) = cond (lt (f s) zero_f) (record { yes = false; read = 
 unfoldable pub inside : List Point2 → Point2 → Inside
 inside l p = cond (ltb (length l) 3) (record { yes = false; read = 0 }) (stop_from (edge_signed_distance p) 0 (sides l))
 
--- ---- the same by five numbers a side, which are worked out once for all points
+-- ---- the same by what is worked out once for all points
 
--- of a side with its length: its first corner, the way from there to the next, the length
-abbrev pub side_numbers : Point2 × Point2 → Float → List Float
-side_numbers s len = s.0.n ∷ s.0.e ∷ sub binary32 s.1.n s.0.n ∷ sub binary32 s.1.e s.0.e ∷ len ∷ []
+-- a side: its first corner, the way from there to the next, its length
+abbrev pub side_of : Point2 × Point2 → Side
+side_of s = record { from = s.0; north = sub binary32 s.1.n s.0.n; east = sub binary32 s.1.e s.0.e; len = side_length s }
 
-abbrev pub numbers : List (Point2 × Point2) → List Float
-numbers [] = []
-numbers (s ∷ ss) = side_numbers s (side_length s) ++ numbers ss
+-- what stands in an unused place
+abbrev pub no_side : Side
+no_side = record { from = zero_point; north = zero_f; east = zero_f; len = zero_f }
 
--- room for 16 sides, and 0 in the unused places
-abbrev pub ring_numbers : List Point2 → List Float
-ring_numbers l = numbers (sides l) ++ replicate (80 - 5 * length l) zero_f
-
--- of the side i: whether it is below 1e-6, which gives −1
-unfoldable pub short_at : List Float → ℕ → Bool
-short_at x i = lt (get_or x (5 * i + 4) nan) least_length
+-- whether a side is below 1e-6, which gives −1
+abbrev pub is_short : Side → Bool
+is_short s = lt s.len least_length
 
 -- and whether the distance from it is negative where it is not
-unfoldable pub negative_at : List Float → Point2 → ℕ → Bool
-negative_at x p i =
-    let ap_n = sub binary32 p.n (get_or x (5 * i) nan) in
-    let ap_e = sub binary32 p.e (get_or x (5 * i + 1) nan) in
-    lt (div binary32 (sub binary32 (mul binary32 (get_or x (5 * i + 2) nan) ap_e) (mul binary32 (get_or x (5 * i + 3) nan) ap_n)) (get_or x (5 * i + 4) nan)) zero_f
+unfoldable pub is_negative : Point2 → Side → Bool
+is_negative p s =
+    lt (div binary32 (sub binary32 (mul binary32 s.north (sub binary32 p.e s.from.e)) (mul binary32 s.east (sub binary32 p.n s.from.n))) s.len) zero_f
 
--- of so many numbers from k on, those before the first that meets a test
-abbrev pub before : (ℕ → Bool) → ℕ → ℕ → ℕ
-before t k zero = 0
-before t k (suc left) = cond (t k) 0 (suc (before t (k + 1) left))
+-- the first element that meets a test, of a list that k stand before; or what is answered where none does
+abbrev pub stop_at : {A : Type 0} → (A → Bool) → Inside → ℕ → List A → Inside
+stop_at t none k [] = none
+stop_at t none k (a ∷ l) = cond (t a) (record { yes = false; read = k + 1 }) (stop_at t none (k + 1) l)
 
--- by the numbers of n sides, of which the first `long` are not short
-unfoldable pub inside_by : List Float → ℕ → ℕ → Point2 → Inside
-inside_by x n long p =
-    let i = before (negative_at x p) 0 long in
-    cond (ltb n 3) (record { yes = false; read = 0 })
-    (cond (ltb i n) (record { yes = false; read = i + 1 }) (record { yes = true; read = n }))
+-- the test by the sides
+abbrev pub inside_by : List Side → Point2 → Inside
+inside_by l p =
+    cond (ltb (length l) 3) (record { yes = false; read = 0 })
+    (stop_at (λ s. is_short s || is_negative p s) (record { yes = true; read = length l }) 0 l)
+
+-- and by the sides before the first that is short
+abbrev pub answer : Sides → Point2 → Inside
+answer s p = stop_at (is_negative p) s.otherwise 0 s.long.now
 
 -- ---- the same without the loop
 

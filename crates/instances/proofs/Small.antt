@@ -7,7 +7,6 @@ use Rattle.float32.specs.Libm.{is_finite, fmax, fabs}
 use Rattle.types.specs.ActiveSet.{set_request, higher_request, requested_action}
 use Rattle.types.specs.Vec3.{alt_m, horizontal_dist_home}
 use Rattle.corners.specs.Acceptance.{corner_fault, same_point, flat_turn, cross2, mixed_turns, area_term, polygon_area, polygon_tests}
-use Rattle.geometry.specs.Polygon.{polygon_new, geofence_new}
 use Rattle.geometry.specs.Distance.{side_length, edge_signed_distance_by, signed_distance, contains, nearest}
 use Rattle.config.specs.Config.{bad_cell_count, bad_capacity, non_finite_param, non_positive_speed, negative_power, bad_threshold_order, outside_duration, duration_out_of_range, rtl_alt_outside_fence, check_config}
 use Rattle.config.specs.Default.{default_config, default_fence}
@@ -24,7 +23,7 @@ use Rattle.supervisor.specs.Step.{sense, disarmed, disarmed_decision, flown, ste
 use Rattle.instances.specs.Small.{SmallInstances}
 
 pub small_instances : SmallInstances
-unfolding hold_met of_int distance_between within_jump accept_sample corner_fault same_point flat_turn cross2 mixed_turns area_term polygon_area polygon_tests polygon_new geofence_new side_length edge_signed_distance_by signed_distance contains nearest default_fence fabs held_set rc_link energy add sub mul div neg lt le eq is_nan of_bits round wrapping_sub age fresh square_root is_finite fmax alt_m horizontal_dist_home bad_cell_count bad_capacity non_finite_param non_positive_speed negative_power bad_threshold_order outside_duration duration_out_of_range rtl_alt_outside_fence check_config default_config rtl_wh land_wh rtl_energy_at rtl_energy set_request higher_request requested_action validate_telemetry apply_glitch_filter without_gcs_timer update without_recovery apply_persistence apply_feasibility arbitrate gate_open evaluate clock_fault clock_step sense disarmed disarmed_decision flown step
+unfolding hold_met of_int distance_between within_jump accept_sample corner_fault same_point flat_turn cross2 mixed_turns area_term polygon_area polygon_tests side_length edge_signed_distance_by signed_distance contains nearest default_fence fabs held_set rc_link energy add sub mul div neg lt le eq is_nan of_bits round wrapping_sub age fresh square_root is_finite fmax alt_m horizontal_dist_home bad_cell_count bad_capacity non_finite_param non_positive_speed negative_power bad_threshold_order outside_duration duration_out_of_range rtl_alt_outside_fence check_config default_config rtl_wh land_wh rtl_energy_at rtl_energy set_request higher_request requested_action validate_telemetry apply_glitch_filter without_gcs_timer update without_recovery apply_persistence apply_feasibility arbitrate gate_open evaluate clock_fault clock_step sense disarmed disarmed_decision flown step
 small_instances =
     record {
       disarm_by_fresh_false = refl;

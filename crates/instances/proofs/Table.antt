@@ -13,7 +13,6 @@ use Rattle.float32.specs.Sqrt.{square_root}
 use Rattle.float32.proofs.SquareRoot.{of_250000}
 use Rattle.float32.specs.Libm.{is_finite, fabs}
 use Rattle.corners.specs.Acceptance.{polygon_fault, corner_fault, same_point, flat_turn, cross2, mixed_turns, area_term, polygon_area, polygon_tests}
-use Rattle.geometry.specs.Polygon.{polygon_new, geofence_new}
 use Rattle.geometry.specs.Distance.{side_length, edge_signed_distance_by, signed_distance}
 use Rattle.config.specs.Default.{decimal, default_fence}
 use Rattle.validate.specs.Glitch.{distance_between, within_jump, accept_sample, apply_glitch_filter}
@@ -60,15 +59,15 @@ unfolding of_bits to_bits round square_root
 root_of_least = refl
 
 fence_at_home : fence_distance 0 ≡ whole_number 500
-unfolding add sub mul div neg lt of_bits round square_root is_finite fabs eq polygon_new geofence_new area_term polygon_area side_length edge_signed_distance_by signed_distance default_fence
+unfolding add sub mul div neg lt of_bits round square_root area_term polygon_area side_length edge_signed_distance_by signed_distance default_fence
 fence_at_home = refl
 
 fence_inside : fence_distance 495 ≡ whole_number 5
-unfolding add sub mul div neg lt of_bits round square_root is_finite fabs eq polygon_new geofence_new area_term polygon_area side_length edge_signed_distance_by signed_distance default_fence
+unfolding add sub mul div neg lt of_bits round square_root area_term polygon_area side_length edge_signed_distance_by signed_distance default_fence
 fence_inside = refl
 
 fence_outside : fence_distance 501 ≡ neg (whole_number 1)
-unfolding add sub mul div neg lt of_bits round square_root is_finite fabs eq polygon_new geofence_new area_term polygon_area side_length edge_signed_distance_by signed_distance default_fence
+unfolding add sub mul div neg lt of_bits round square_root area_term polygon_area side_length edge_signed_distance_by signed_distance default_fence
 fence_outside = refl
 
 area_enough : polygon_fault false 3 (triangle (whole_number 20)) ≡ Ok tt

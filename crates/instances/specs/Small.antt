@@ -263,7 +263,7 @@ reading armed =
 
 -- a step at 50, which is one more fault
 abbrev pub fault_after : ℕ → Option (Stamped Bool) → Stepped
-fault_after streak armed = step (base_settings default_config) (under_way streak) (fed_at (fence_site default_fence.fence) (reading armed))
+fault_after streak armed = step (base_settings default_config) (under_way streak) (fed_at (fence_site default_fence) (reading armed))
 
 pub record SmallInstances : Type 0 where
   -- "Confirmed disarm is a fresh armed reading of false."
@@ -376,9 +376,9 @@ pub record SmallInstances : Type 0 where
   -- "any turn under 0.0001 in size; mixed turn signs", in this order
   pub flat_before_convex : polygon_fault false 6 flat_and_dented ≡ Err FenceError.CollinearEdge
   -- "Inside means at least 0."
-  pub inside_at_zero : contains (ring_of default_fence.fence.poly) (at (whole_number 500) (whole_number 0)) ≡ true
+  pub inside_at_zero : contains (ring_of default_fence.poly) (at (whole_number 500) (whole_number 0)) ≡ true
   -- document 02, L1: "At equal distances the lower number is given": home is 500 m from all four sides
-  pub lower_side : (nearest (ring_of default_fence.fence.poly) (at (whole_number 0) (whole_number 0))).side ≡ 0
+  pub lower_side : (nearest (ring_of default_fence.poly) (at (whole_number 0) (whole_number 0))).side ≡ 0
   -- "below 1e-6 length gives −1": a side of 1e-7 m; by its line the point would be 5 m inside
   pub short_side : edge_signed_distance (at (neg (whole_number 5)) (whole_number 0)) (at (whole_number 0) (whole_number 0), at (whole_number 0) (bits 0x33D6_BF95)) ≡ neg (whole_number 1)
   -- triggers.rs: `.map(|hb| age_ms(now_ms, hb).unwrap_or(u32::MAX))`: a heartbeat from ahead is as good as none

@@ -28,7 +28,7 @@ at n e = record { n = n; e = e }
 
 -- the distance from the default fence of the point (n, 0)
 abbrev pub fence_distance : ℕ → Float
-fence_distance n = signed_distance (ring_of default_fence.fence.poly) (at (whole_number n) (whole_number 0))
+fence_distance n = signed_distance (ring_of default_fence.poly) (at (whole_number n) (whole_number 0))
 
 -- a triangle with a side of the given length
 abbrev pub triangle : Float → List Point2

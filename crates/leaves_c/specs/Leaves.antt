@@ -1,9 +1,10 @@
 -- What the entries of `leaves_c` add to the leaves that they call: a number for what is absent, and the frames in which values come and go.
 -- Assumes nothing.
-use Rattle.std.specs.Prelude.{ℕ, Bool, false, cond, List, eqb, Float, Option, Some, None, Result, Ok, Err}
+use Rattle.std.specs.Prelude.{ℕ, Bool, false, List, [], take, replicate, Float, Option, Some, None, Result, Ok, Err}
 use Rattle.std.specs.Bool.{then_some}
 use Rattle.types.specs.declared.UnknownNumber.{UnknownNumber}
-use Rattle.wire.specs.Frame.{room_fault, frame_written}
+use Rattle.wire.specs.declared.FrameError.{FrameError}
+use Rattle.wire.specs.Frame.{frame_error_number, room_fault, frame_written}
 use Rattle.types.specs.declared.Action.{Action}
 use Rattle.types.specs.declared.ActiveSet.{ActiveSet}
 use Rattle.types.specs.declared.Decision.{Decision}
@@ -13,15 +14,17 @@ use Rattle.types.specs.declared.Point2.{Point2}
 use Rattle.types.specs.declared.Reason.{Reason}
 use Rattle.types.specs.declared.Vec3.{Vec3}
 use Rattle.types.specs.Numbers.{rank, index, display_priority}
-use Rattle.types.specs.ActiveSet.{set_request, clear_request}
+use Rattle.types.specs.ActiveSet.{empty_set, set_request, clear_request}
+use Rattle.corners.specs.declared.FenceError.{FenceError}
+use Rattle.corners.specs.Acceptance.{fence_error_number}
 use Rattle.geometry.specs.declared.Geofence.{Geofence}
+use Rattle.geometry.specs.Polygon.{zero_point}
 use Rattle.energy.specs.Energy.{rtl_energy}
 use Rattle.disarm.specs.declared.DisarmGate.{DisarmGate}
-use Rattle.frame_config.specs.declared.ConfigRead.{ConfigRead}
+use Rattle.config.specs.declared.Config.{Config}
 use Rattle.frame_fence.specs.declared.FenceRead.{FenceRead}
-use Rattle.frame_fence.specs.FenceFrame.{fence_of, fence_number, fence_frame}
-use Rattle.frame_decision.specs.declared.DecisionRead.{DecisionRead}
-use Rattle.frame_decision.specs.DecisionFrame.{blank_decision, decision_frame}
+use Rattle.frame_fence.specs.FenceFrame.{fence_of, fence_frame}
+use Rattle.frame_decision.specs.DecisionFrame.{decision_frame}
 use Rattle.types.specs.declared.Stamped.{Stamped}
 
 -- an age; no age is as large as the number for none
@@ -68,6 +71,16 @@ refused n to = record { number = n; slice = to }
 abbrev pub written : List ℕ → List ℕ → Call
 written bytes to = record { number = room_fault bytes to; slice = frame_written bytes to }
 
+-- the answer to a frame that was read: its refusal, or the frame made of what it gave
+abbrev pub answer : {A : Type 0} → (A → List ℕ) → Result A FrameError → List ℕ → Call
+answer frame (Ok x) to = written (frame x) to
+answer frame (Err e) to = refused (frame_error_number e) to
+
+-- the requests of a Decision's frame; none where it is refused
+abbrev pub active_of : Result Decision FrameError → ActiveSet
+active_of (Ok d) = d.active
+active_of (Err e) = empty_set
+
 -- a Decision with other requests
 abbrev pub with_active : Decision → ActiveSet → Decision
 with_active d s =
@@ -83,52 +96,56 @@ with_active d s =
       disarm_eligible = d.disarm_eligible;
     }
 
-abbrev pub filed_call : DecisionRead → Reason → Action → List ℕ → Call
-filed_call read r a to =
-    cond (eqb read.refused 0)
-    (written (decision_frame (with_active read.decision (set_request read.decision.active r a))) to)
-    (refused read.refused to)
+abbrev pub filed_call : Result Decision FrameError → Reason → Action → List ℕ → Call
+filed_call read r a to = answer (λ d. decision_frame (with_active d (set_request d.active r a))) read to
 
-abbrev pub cleared_call : DecisionRead → Reason → List ℕ → Call
-cleared_call read r to =
-    cond (eqb read.refused 0)
-    (written (decision_frame (with_active read.decision (clear_request read.decision.active r))) to)
-    (refused read.refused to)
+abbrev pub cleared_call : Result Decision FrameError → Reason → List ℕ → Call
+cleared_call read r to = answer (λ d. decision_frame (with_active d (clear_request d.active r))) read to
+
+-- the sixteen places of a fence's frame; zero where it is refused
+abbrev pub places_of : Result FenceRead FrameError → List Point2
+places_of (Ok r) = r.corners
+places_of (Err e) = replicate 16 zero_point
+
+-- the corners of a fence's frame, sixteen at most; none where it is refused
+abbrev pub corners_of : Result FenceRead FrameError → List Point2
+corners_of (Ok r) = take r.count r.corners
+corners_of (Err e) = []
 
 -- all sixteen places of the polygon, as a kind 2 of sixteen corners
 abbrev pub places_frame : Geofence → List ℕ
 places_frame f = fence_frame false 16 f.min_alt_m f.max_alt_m f.poly.verts
 
--- the refusal of the frame, that of the rules, or what is held
-abbrev pub held_call : FenceRead → List ℕ → Call
-held_call read to =
-    cond (eqb read.refused 0)
-    (cond (eqb (fence_number (fence_of read).result) 0)
-    (written (places_frame (fence_of read).fence) to)
-    (refused (fence_number (fence_of read).result) to))
-    (refused read.refused to)
+-- the refusal of the rules, or what is held
+abbrev pub judged_call : Result Geofence FenceError → List ℕ → Call
+judged_call (Ok f) to = written (places_frame f) to
+judged_call (Err e) to = refused (fence_error_number e) to
 
--- the frame of a Decision that has an estimate and nothing else
-abbrev pub with_energy : Decision → EnergyEstimate → Decision
-with_energy d e =
+-- the refusal of the frame, that of the rules, or what is held
+abbrev pub held_call : Result FenceRead FrameError → List ℕ → Call
+held_call (Ok r) to = judged_call (fence_of r) to
+held_call (Err e) to = refused (frame_error_number e) to
+
+-- a Decision that has an estimate and nothing else
+abbrev pub with_estimate : EnergyEstimate → Decision
+with_estimate e =
     record {
-      action = d.action;
-      reason = d.reason;
-      requested = d.requested;
-      active = d.active;
-      position_valid = d.position_valid;
-      clock_fault = d.clock_fault;
+      action = Action.Nominal;
+      reason = Reason.None;
+      requested = Action.Nominal;
+      active = empty_set;
+      position_valid = false;
+      clock_fault = false;
       energy = e;
-      fence_dist_m = d.fence_dist_m;
-      disarm_eligible = d.disarm_eligible;
+      fence_dist_m = None;
+      disarm_eligible = false;
     }
 
 abbrev pub estimate_frame : EnergyEstimate → List ℕ
-estimate_frame e = decision_frame (with_energy blank_decision e)
+estimate_frame e = decision_frame (with_estimate e)
 
-abbrev pub energy_call : ConfigRead → Vec3 → Option Float → List ℕ → Call
-energy_call (ConfigRead.Refused n) pos remaining to = refused n to
-energy_call (ConfigRead.Frame cfg) pos remaining to = written (estimate_frame (rtl_energy cfg pos remaining)) to
+abbrev pub energy_call : Result Config FrameError → Vec3 → Option Float → List ℕ → Call
+energy_call read pos remaining to = answer (λ cfg. estimate_frame (rtl_energy cfg pos remaining)) read to
 
 -- the gate: the hold's start, or 2 ^ 32 where no hold has begun
 abbrev pub since_or : Option ℕ → ℕ

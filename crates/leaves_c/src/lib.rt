@@ -4,27 +4,30 @@
 
 ghost use Rattle.std.specs.Bool.{then_some};
 ghost use Rattle.std.specs.Prelude.{false, ◌≡◌, take};
-ghost use Rattle.wire.specs.Frame.{room_fault, frame_written};
+ghost use Rattle.wire.specs.Frame.{check_room, room_fault, frame_written};
 ghost use Rattle.time.specs.Time.{wrapping, age, fresh};
 ghost use Rattle.types.specs.Numbers.{landed_of_number, rank, action_of_rank, index, reason_of_index};
 ghost use Rattle.types.specs.ActiveSet.{requested_action};
 ghost use Rattle.types.specs.Vec3.{alt_m, horizontal_dist_home};
-ghost use Rattle.geometry.specs.Polygon.{polygon_new};
+ghost use Rattle.geometry.specs.Polygon.{held_polygon, polygon_new};
 ghost use Rattle.geometry.specs.Distance.{ring_of, signed_distance, contains};
 ghost use Rattle.disarm.specs.Disarm.{closed, evaluate};
 ghost use Rattle.config.specs.Default.{default_config, default_fence};
 ghost use Rattle.frame_config.specs.ConfigFrame.{read_config, config_frame};
-ghost use Rattle.frame_fence.specs.FenceFrame.{read_fence, fence_of, fence_number};
+ghost use Rattle.frame_fence.specs.FenceFrame.{read_fence, fence_number};
 ghost use Rattle.frame_decision.specs.DecisionFrame.{read_decision};
-ghost use Rattle.leaves_c.specs.Leaves.{age_or, index_or, priority_or, rank_or, reason_or, action_or, vec3, point2, places_frame, held_call, filed_call, cleared_call, energy_call, estimate_frame, since_or, gate_of, stamped, landed_or};
+ghost use Rattle.leaves_c.specs.Leaves.{age_or, active_of, index_or, priority_or, rank_or, reason_or, action_or, vec3, point2, places_of, corners_of, places_frame, held_call, filed_call, cleared_call, energy_call, estimate_frame, since_or, gate_of, stamped, landed_or};
 
 use config::Config;
+use corners::FenceError;
 use disarm::{DisarmGate, Evaluated};
-use frame_config::ConfigRead;
+use frame_fence::FenceRead;
 use geometry::{ConvexPolygon, Geofence};
 use types::{
-    Action, EnergyEstimate, LandedState, Point2, Reason, Request, Stamped, UnknownNumber, Vec3,
+    Action, ActiveSet, Decision, EnergyEstimate, LandedState, Point2, Reason, Request, Stamped,
+    UnknownNumber, Vec3,
 };
+use wire::{FrameError, number_of};
 
 #[unsafe(no_mangle)]
 pub extern "C" fn leaf_age(now: u32, then: u32) -> u32
@@ -73,24 +76,23 @@ pub extern "C" fn leaf_action_rank(n: u8) -> u8
 
 // What the requests of a kind 4 frame ask for; of a frame that is refused, nothing.
 fn requested(frame: &[u8]) -> Request
-    ensures { result ≡ requested_action (read_decision frame.now).decision.active.reqs }
+    ensures { result ≡ requested_action (active_of (read_decision frame.now)).reqs }
 {
     frame_decision::read_decision(frame)
-        .decision
-        .active
+        .map_or(ActiveSet::new(), |d| d.active)
         .requested_action()
 }
 
 #[unsafe(no_mangle)]
 pub extern "C" fn leaf_requested_rank(frame: &[u8]) -> u8
-    ensures { result ≡ rank (requested_action (read_decision frame.now).decision.active.reqs).action }
+    ensures { result ≡ rank (requested_action (active_of (read_decision frame.now)).reqs).action }
 {
     requested(frame).action.rank()
 }
 
 #[unsafe(no_mangle)]
 pub extern "C" fn leaf_requested_reason(frame: &[u8]) -> usize
-    ensures { result ≡ index (requested_action (read_decision frame.now).decision.active.reqs).reason }
+    ensures { result ≡ index (requested_action (active_of (read_decision frame.now)).reqs).reason }
 {
     requested(frame).reason.index()
 }
@@ -113,13 +115,13 @@ pub extern "C" fn leaf_filed(frame: &[u8], reason: usize, action: u8, to: &mut [
     ensures value { result ≡ (filed_call (read_decision frame.now) (reason_or (reason_of_index reason)) (action_or (action_of_rank action)) to.old).number }
     ensures to_after { to.new ≡ (filed_call (read_decision frame.now) (reason_or (reason_of_index reason)) (action_or (action_of_rank action)) to.old).slice }
 {
-    let read = frame_decision::read_decision(frame);
-    if read.refused != 0 {
-        return u32::from(read.refused);
+    match frame_decision::read_decision(frame) {
+        Ok(d) => {
+            let active = d.active.set(reason_of(reason), action_of(action));
+            number_of(frame_decision::write_decision(to, Decision { active, ..d }))
+        }
+        Err(e) => u32::from(e.number()),
     }
-    let mut d = read.decision;
-    d.active = d.active.set(reason_of(reason), action_of(action));
-    u32::from(frame_decision::write_decision(to, d))
 }
 
 // The same with a reason's request cleared.
@@ -128,13 +130,13 @@ pub extern "C" fn leaf_cleared(frame: &[u8], reason: usize, to: &mut [u8]) -> u3
     ensures value { result ≡ (cleared_call (read_decision frame.now) (reason_or (reason_of_index reason)) to.old).number }
     ensures to_after { to.new ≡ (cleared_call (read_decision frame.now) (reason_or (reason_of_index reason)) to.old).slice }
 {
-    let read = frame_decision::read_decision(frame);
-    if read.refused != 0 {
-        return u32::from(read.refused);
+    match frame_decision::read_decision(frame) {
+        Ok(d) => {
+            let active = d.active.clear(reason_of(reason));
+            number_of(frame_decision::write_decision(to, Decision { active, ..d }))
+        }
+        Err(e) => u32::from(e.number()),
     }
-    let mut d = read.decision;
-    d.active = d.active.clear(reason_of(reason));
-    u32::from(frame_decision::write_decision(to, d))
 }
 
 #[unsafe(no_mangle)]
@@ -151,59 +153,78 @@ pub extern "C" fn leaf_home_distance(n: f32, e: f32, d: f32) -> f32
     Vec3 { n, e, d }.horizontal_dist_home()
 }
 
+// The places of a fence's frame.
+fn places(frame: &[u8]) -> [Point2; 16]
+    ensures { result ≡ places_of (read_fence frame.now) }
+{
+    match frame_fence::read_fence(frame) {
+        Ok(r) => r.corners,
+        Err(_) => [Point2 { n: 0.0, e: 0.0 }; 16],
+    }
+}
+
 // The Rust's constructor on the corners of a fence's frame, with any count: one above 255 is in no frame.
+#[tactic(auto, using(frame_fence::proofs::Rules::new_many))]
 #[unsafe(no_mangle)]
 pub extern "C" fn leaf_polygon(frame: &[u8], count: usize) -> u16
-    ensures { result ≡ fence_number (polygon_new false count (take count (read_fence frame.now).corners)).result }
+    ensures { result ≡ fence_number (polygon_new false count (take count (places_of (read_fence frame.now)))) }
 {
-    let sent = frame_fence::read_fence(frame);
-    let corners = sent.corners;
-    let made = ConvexPolygon::new(corners, count);
-    let result = made.result;
-    frame_fence::fence_number(result)
+    if count > 16 {
+        return FenceError::TooManyVertices.number();
+    }
+    match ConvexPolygon::new(&places(frame)[..count]) {
+        Ok(_) => 0,
+        Err(e) => e.number(),
+    }
 }
 
 // The polygon of a fence's frame as it is held, whatever the rules say of it.
 fn held(frame: &[u8]) -> ConvexPolygon
-    ensures { result ≡ (fence_of (read_fence frame.now)).fence.poly }
+    ensures { result ≡ held_polygon (corners_of (read_fence frame.now)) }
 {
-    let made = frame_fence::fence_of(frame_fence::read_fence(frame));
-    let fence = made.fence;
-    fence.poly
+    match frame_fence::read_fence(frame) {
+        Ok(r) => ConvexPolygon::held(&r.corners[..usize::from(r.count).min(16)]),
+        Err(_) => ConvexPolygon::held(&[]),
+    }
 }
 
 #[unsafe(no_mangle)]
 pub extern "C" fn leaf_fence_len(frame: &[u8]) -> usize
-    ensures { result ≡ (fence_of (read_fence frame.now)).fence.poly.len }
+    ensures { result ≡ (held_polygon (corners_of (read_fence frame.now))).len }
 {
-    let poly = held(frame);
-    poly.len()
+    held(frame).len()
 }
 
 #[unsafe(no_mangle)]
 pub extern "C" fn leaf_fence_distance(frame: &[u8], n: f32, e: f32) -> f32
-    ensures { result ≡ signed_distance (ring_of (fence_of (read_fence frame.now)).fence.poly) (point2 n e) }
+    ensures { result ≡ signed_distance (ring_of (held_polygon (corners_of (read_fence frame.now)))) (point2 n e) }
 {
-    let poly = held(frame);
-    poly.signed_distance(Point2 { n: n, e: e })
+    held(frame).signed_distance(Point2 { n, e })
 }
 
 #[unsafe(no_mangle)]
 pub extern "C" fn leaf_fence_contains(frame: &[u8], n: f32, e: f32) -> bool
-    ensures { result ≡ contains (ring_of (fence_of (read_fence frame.now)).fence.poly) (point2 n e) }
+    ensures { result ≡ contains (ring_of (held_polygon (corners_of (read_fence frame.now)))) (point2 n e) }
 {
-    let poly = held(frame);
-    poly.contains(Point2 { n: n, e: e })
+    held(frame).contains(Point2 { n, e })
 }
 
 // All sixteen places of a fence's polygon, the unused ones too, as a frame of sixteen corners.
-#[tactic(auto, unfolding(frame_fence::specs::FenceFrame::write_fault, frame_fence::specs::FenceFrame::fence_written))]
-fn write_places(fence: Geofence, to: &mut [u8]) -> u16
-    ensures { (result ≡ room_fault (places_frame fence) to.old) × (to.new ≡ frame_written (places_frame fence) to.old) }
+#[tactic(auto, using(crate::proofs::Sixteen::places_number), unfolding(frame_fence::specs::FenceFrame::fence_written))]
+fn write_places(fence: &Geofence, to: &mut [u8]) -> u32
+    ensures { (result ≡ room_fault (places_frame fence.now) to.old) × (to.new ≡ frame_written (places_frame fence.now) to.old) }
 {
-    let poly = fence.poly;
-    let verts = poly.verts;
-    frame_fence::write_fence(to, false, 16, fence.min_alt_m, fence.max_alt_m, verts)
+    let places = FenceRead {
+        once_round: false,
+        count: 16,
+        min_alt_m: fence.min_alt_m,
+        max_alt_m: fence.max_alt_m,
+        corners: fence.poly.verts,
+    };
+    match frame_fence::write_fence(to, &places) {
+        Ok(()) => 0,
+        Err(e) => u32::from(e.number()),
+    }
 }
 
 #[unsafe(no_mangle)]
@@ -211,38 +232,28 @@ pub extern "C" fn leaf_fence_held(frame: &[u8], to: &mut [u8]) -> u32
     ensures value { result ≡ (held_call (read_fence frame.now) to.old).number }
     ensures to_after { to.new ≡ (held_call (read_fence frame.now) to.old).slice }
 {
-    let sent = frame_fence::read_fence(frame);
-    if sent.refused != 0 {
-        return u32::from(sent.refused);
+    match frame_fence::read_fence(frame) {
+        Ok(r) => match frame_fence::fence_of(&r) {
+            Ok(fence) => write_places(&fence, to),
+            Err(e) => u32::from(e.number()),
+        },
+        Err(e) => u32::from(e.number()),
     }
-    let made = frame_fence::fence_of(sent);
-    let result = made.result;
-    let broken = frame_fence::fence_number(result);
-    if broken != 0 {
-        return u32::from(broken);
-    }
-    let fence = made.fence;
-    u32::from(write_places(fence, to))
 }
 
 #[unsafe(no_mangle)]
 pub extern "C" fn leaf_default_fence(to: &mut [u8]) -> u32
-    ensures value { result ≡ room_fault (places_frame default_fence.fence) to.old }
-    ensures to_after { to.new ≡ frame_written (places_frame default_fence.fence) to.old }
+    ensures value { result ≡ room_fault (places_frame default_fence) to.old }
+    ensures to_after { to.new ≡ frame_written (places_frame default_fence) to.old }
 {
-    let made = config::default_fence();
-    let fence = made.fence;
-    u32::from(write_places(fence, to))
+    write_places(&config::default_fence(), to)
 }
 
 #[unsafe(no_mangle)]
 pub extern "C" fn leaf_default_fence_len() -> usize
-    ensures { result ≡ default_fence.fence.poly.len }
+    ensures { result ≡ default_fence.poly.len }
 {
-    let made = config::default_fence();
-    let fence = made.fence;
-    let poly = fence.poly;
-    poly.len()
+    config::default_fence().poly.len()
 }
 
 #[unsafe(no_mangle)]
@@ -250,15 +261,24 @@ pub extern "C" fn leaf_default_config(to: &mut [u8]) -> u32
     ensures value { result ≡ room_fault (config_frame default_config) to.old }
     ensures to_after { to.new ≡ frame_written (config_frame default_config) to.old }
 {
-    u32::from(frame_config::write_config(to, Config::default()))
+    number_of(frame_config::write_config(to, Config::default()))
 }
 
 // An estimate in the frame of a Decision that has nothing else.
-fn write_estimate(estimate: EnergyEstimate, to: &mut [u8]) -> u16
-    ensures { (result ≡ room_fault (estimate_frame estimate) to.old) × (to.new ≡ frame_written (estimate_frame estimate) to.old) }
+fn write_estimate(energy: EnergyEstimate, to: &mut [u8]) -> Result<(), FrameError>
+    ensures { (result ≡ check_room (estimate_frame energy) to.old) × (to.new ≡ frame_written (estimate_frame energy) to.old) }
 {
-    let mut d = frame_decision::refused_with(0).decision;
-    d.energy = estimate;
+    let d = Decision {
+        action: Action::Nominal,
+        reason: Reason::None,
+        requested: Action::Nominal,
+        active: ActiveSet::new(),
+        position_valid: false,
+        clock_fault: false,
+        energy,
+        fence_dist_m: None,
+        disarm_eligible: false,
+    };
     frame_decision::write_decision(to, d)
 }
 
@@ -276,11 +296,11 @@ pub extern "C" fn leaf_energy(
     ensures to_after { to.new ≡ (energy_call (read_config config.now) (vec3 n e d) (then_some known remaining) to.old).slice }
 {
     match frame_config::read_config(config) {
-        ConfigRead::Refused(number) => u32::from(number),
-        ConfigRead::Frame(cfg) => {
+        Ok(cfg) => {
             let estimate = energy::rtl_energy(cfg, Vec3 { n, e, d }, known.then_some(remaining));
-            u32::from(write_estimate(estimate, to))
+            number_of(write_estimate(estimate, to))
         }
+        Err(refusal) => u32::from(refusal.number()),
     }
 }
 

@@ -19,11 +19,7 @@ pub struct Standing {
 fn is_younger(a: Option<u32>, b: Option<u32>) -> bool
     ensures { result ≡ younger a b }
 {
-    match (a, b) {
-        (None, _) => false,
-        (Some(_), None) => true,
-        (Some(x), Some(y)) => x < y,
-    }
+    a.is_some_and(|x| b.is_none_or(|y| x < y))
 }
 
 // Of two that are present.

@@ -1,5 +1,5 @@
 -- A merged Telemetry has its numbers within their types and its floats in binary32, as the two that were read have: so its frame reads back. Assumes nothing.
-use Rattle.std.specs.Prelude.{Some, None, unwrap_or}
+use Rattle.std.specs.Prelude.{Some, None, unwrap_or, Ok}
 use Prim.Native.Nat.{ℕ, ◌+◌, ◌<◌, ◌^◌}
 use mathlib.Core.Path.{◌≡◌}
 use mathlib.Core.Bool.{Bool, true, false, cond}
@@ -16,7 +16,6 @@ use Rattle.wire.specs.Cell.{Within}
 use Rattle.wire.proofs.Fields.{u32_lt}
 use Rattle.options.specs.Options.{option_u8_at, option_u32_at, option_f32_at}
 use Rattle.options.specs.Position.{vec3_at, option_position_at, position_cells}
-use Rattle.frame_telemetry.specs.declared.TelemetryRead.{TelemetryRead}
 use Rattle.frame_telemetry.specs.Readings.{fix_at, landed_at, option_gps_at, gps_cells, u32_cells, stamped_f32_at, stamped_f32_cells, stamped_bool_at, stamped_bool_cells, stamped_landed_at, stamped_landed_cells}
 use Rattle.frame_telemetry.specs.TelemetryFrame.{read_telemetry, telemetry_at, battery_cells, status_cells, telemetry_cells, telemetry_frame}
 use Rattle.frame_telemetry_trips.proofs.Trips.{within_joined, value_back}
@@ -167,7 +166,7 @@ sized_within t g =
 -- the merged frame of two Telemetries that were read is accepted, and reads as what was merged
 pub accepted :
     (cap : Float) (s u : List ℕ) → Bytes s → Bytes u →
-    read_telemetry (telemetry_frame (merge_telemetry cap (telemetry_at s) (telemetry_at u))) ≡ TelemetryRead.Frame (merge_telemetry cap (telemetry_at s) (telemetry_at u))
+    read_telemetry (telemetry_frame (merge_telemetry cap (telemetry_at s) (telemetry_at u))) ≡ Ok (merge_telemetry cap (telemetry_at s) (telemetry_at u))
 accepted cap s u b d =
     let m = merge_telemetry cap (telemetry_at s) (telemetry_at u) in
     value_back m (sized_within m (sized_merged cap (telemetry_at s) (telemetry_at u) (sized_at s b) (sized_at u d)))

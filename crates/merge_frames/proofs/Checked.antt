@@ -1,67 +1,57 @@
 -- A flight that is accepted has the capacity that stands at byte 5 of its configuration: so merging after a check is merging. Assumes nothing.
-use Prim.Native.Nat.{ℕ}
-use mathlib.Core.Path.{◌≡◌, refl}
-use mathlib.Core.Bool.{Bool, true, false, cond}
-use mathlib.Core.List.{List}
-use lib.Dec.{eqb}
-use borrow.Author.Tests.{eqb-true, eqb-false}
-use native.Mathlib.Omega.{arith}
-use Rattle.wire.specs.Fields.{f32_at, byte_below}
-use Rattle.wire.specs.Frame.{frame_fault}
-use Rattle.frame_config.specs.declared.ConfigRead.{ConfigRead}
-use Rattle.frame_config.specs.ConfigFrame.{config_kind, keeps_raised, config_at, read_config}
-use Rattle.frame_fence.specs.FenceFrame.{read_fence}
-use Rattle.frame_telemetry.specs.TelemetryFrame.{read_telemetry}
+use Rattle.flight.specs.Flight.{read_flight, refusal}
+use Rattle.flight.specs.declared.FlightError.{FlightError}
 use Rattle.flight.specs.declared.Flight.{Flight}
-use Rattle.flight.specs.Flight.{accept_flight, refused_flight, after_config, read_flight}
-use Rattle.merge_frames.specs.Call.{declined, after_first, merge_call, merge_checked}
+use Rattle.wire.specs.declared.FrameError.{FrameError}
+use Rattle.std.specs.Result.{result_and}
+use Rattle.std.specs.Prelude.{Result, Ok, Err, ⊤}
+use Prim.Native.Nat.{ℕ}
+use mathlib.Core.Path.{◌≡◌, refl, sym, ap, ◌∙◌}
+use mathlib.Core.Bool.{false}
+use lib.Dec.{eqb}
+use borrow.Author.Tests.{eqb-false}
+use Rattle.flight.proofs.Numbers.{no_flight_zero}
+use mathlib.Core.List.{List}
+use native.Mathlib.Omega.{arith}
+use lib.Ieee.{Float}
+use Rattle.wire.specs.Fields.{f32_at}
+use Rattle.config.specs.declared.Config.{Config}
+use Rattle.frame_config.specs.ConfigFrame.{check_config_frame, keeps_raised, config_at, read_config}
+use Rattle.frame_telemetry.specs.TelemetryFrame.{read_telemetry}
+use Rattle.flight.proofs.Read.{settings_read}
+use Rattle.merge_frames.specs.Call.{declined, after_first, after_flight, merge_call, merge_accepted}
 
-four : ◌≡◌ {A = ℕ} 4 0 → ⊥
-four z = omega arith
-
--- a configuration that is read is that of its bytes, and a refusal's number is not 0
-data Reading (s : List ℕ) : ConfigRead → Type 0 where
-  whole : Reading s (ConfigRead.Frame (config_at s (keeps_raised s)))
-  faulty : {n : ℕ} → (n ≡ 0 → ⊥) → Reading s (ConfigRead.Refused n)
-
-reading : (s : List ℕ) → Reading s (read_config s)
+-- a configuration that is read is that of its bytes
+config_is : (s : List ℕ) (cfg : Config) → read_config s ≡ Ok cfg → cfg ≡ config_at s (keeps_raised s)
 unfolding read_config
-reading s = at (eqb fault 0) (byte_below s 9 2) refl
+config_is s cfg h = at (check_config_frame s) h
   where
-    fault : ℕ
-    fault = frame_fault (config_kind (keeps_raised s)) 244 s
+    at : (a : Result ⊤ FrameError) → result_and a (Ok (config_at s (keeps_raised s))) ≡ Ok cfg → cfg ≡ config_at s (keeps_raised s)
+    at (Ok tt) e = let v : config_at s (keeps_raised s) ≡ cfg = cc in sym v
+    at (Err x) e = let z : ◌≡◌ {A = ℕ} 0 1 = cc in absurd (omega arith)
 
-    at : (f v : Bool) → eqb fault 0 ≡ f → Reading s (cond f (cond v (ConfigRead.Frame (config_at s (keeps_raised s))) (ConfigRead.Refused 4)) (ConfigRead.Refused fault))
-    at true true e = whole
-    at true false e = faulty four
-    at false v e = faulty (eqb-false fault 0 e)
+capacity_at : (config fence : List ℕ) (f : Flight) → read_flight config fence ≡ Ok f → f32_at config 5 ≡ f.cfg.usable_capacity_wh
+unfolding config_at
+capacity_at config fence f h = ap (λ (cfg : Config). cfg.usable_capacity_wh) (sym (config_is config f.cfg (settings_read f config fence h)))
 
-capacity_after : (config fence : List ℕ) (r : ConfigRead) → Reading config r → (after_config r fence).refused ≡ 0 → (after_config r fence).cfg.usable_capacity_wh ≡ f32_at config 5
-unfolding accept_flight refused_flight config_at
-capacity_after config fence (ConfigRead.Refused n) (faulty h) z = absurd (h z)
-capacity_after config fence (ConfigRead.Frame cfg) whole z = at (eqb (read_fence fence).refused 0) refl z
+pub after_check : (config fence first second output : List ℕ) (f : Flight) → read_flight config fence ≡ Ok f → merge_accepted config first second output ≡ merge_call config fence first second output
+unfolding merge_accepted merge_call
+after_check config fence first second output f h =
+    ap (λ (cap : Float). after_first cap (read_telemetry first) second output) (capacity_at config fence f h)
+    ∙ sym (ap (λ (r : Result Flight FlightError). after_flight r first second output) h)
+
+-- a check that answers 0 leaves the merge, and any other number declines it
+pub after_0 : (config fence first second output : List ℕ) → 0 ≡ refusal (read_flight config fence) → merge_accepted config first second output ≡ merge_call config fence first second output
+after_0 config fence first second output h = at (read_flight config fence) refl h
   where
-    at :
-        (b : Bool) → eqb (read_fence fence).refused 0 ≡ b →
-        (cond b (accept_flight (config_at config (keeps_raised config)) (read_fence fence)) (refused_flight (read_fence fence).refused)).refused ≡ 0 →
-        (cond b (accept_flight (config_at config (keeps_raised config)) (read_fence fence)) (refused_flight (read_fence fence).refused)).cfg.usable_capacity_wh ≡ f32_at config 5
-    at true e y = refl
-    at false e y = absurd (eqb-false (read_fence fence).refused 0 e y)
+    at : (r : Result Flight FlightError) → read_flight config fence ≡ r → 0 ≡ refusal r → merge_accepted config first second output ≡ merge_call config fence first second output
+    at (Ok f) p z = after_check config fence first second output f p
+    at (Err e) p z = absurd (no_flight_zero e (sym z))
 
-capacity_at : (config fence : List ℕ) → (read_flight config fence).refused ≡ 0 → (read_flight config fence).cfg.usable_capacity_wh ≡ f32_at config 5
-unfolding read_flight
-capacity_at config fence z = capacity_after config fence (read_config config) (reading config) z
-
-pub checked : (config fence first second output : List ℕ) → merge_checked (read_flight config fence).refused config first second output ≡ merge_call config fence first second output
-unfolding merge_checked merge_call
-checked config fence first second output = at (eqb f.refused 0) refl
+pub after_refusal : (config fence first second output : List ℕ) (n : ℕ) → n ≡ refusal (read_flight config fence) → eqb n 0 ≡ false → merge_call config fence first second output ≡ declined n output
+unfolding merge_call
+after_refusal config fence first second output n h z = at (read_flight config fence) h
   where
-    f : Flight
-    f = read_flight config fence
-
-    at :
-        (b : Bool) → eqb f.refused 0 ≡ b →
-        cond b (after_first (f32_at config 5) (read_telemetry first) second output) (declined f.refused output)
-        ≡ cond b (after_first f.cfg.usable_capacity_wh (read_telemetry first) second output) (declined f.refused output)
-    at true e = rw (capacity_at config fence (eqb-true f.refused 0 e))
-    at false e = refl
+    at : (r : Result Flight FlightError) → n ≡ refusal r → after_flight r first second output ≡ declined n output
+    at (Ok f) e = absurd (eqb-false n 0 z e)
+    at (Err x) e = ap (λ (m : ℕ). declined m output) (sym e)

@@ -1,9 +1,9 @@
 -- What L10 says of the merged frame, for every call of the entry. Assumes nothing.
-use Rattle.std.specs.Prelude.{ℕ, ◌≤◌, ◌≡◌, List, ◌∷◌, ◌++◌, length, drop}
+use Rattle.flight.specs.declared.Flight.{Flight}
+use Rattle.std.specs.Prelude.{ℕ, ◌≤◌, ◌≡◌, List, ◌∷◌, ◌++◌, length, drop, Ok}
 use Rattle.types.specs.declared.Telemetry.{Telemetry}
 use Rattle.wire.specs.Fields.{Bytes}
 use Rattle.wire.specs.Cell.{U16, sorts_of, NoNan, nan_rewritten}
-use Rattle.frame_telemetry.specs.declared.TelemetryRead.{TelemetryRead}
 use Rattle.frame_telemetry.specs.TelemetryFrame.{read_telemetry, telemetry_cells, telemetry_frame}
 use Rattle.flight.specs.Flight.{read_flight}
 use Rattle.merge.specs.Claims.{Merged}
@@ -15,11 +15,11 @@ pub record Succeeded (first second output after : List ℕ) : Type 0 where
   pub a : Telemetry
   pub b : Telemetry
   pub m : Telemetry
-  pub first_read : read_telemetry first ≡ TelemetryRead.Frame a
-  pub second_read : read_telemetry second ≡ TelemetryRead.Frame b
+  pub first_read : read_telemetry first ≡ Ok a
+  pub second_read : read_telemetry second ≡ Ok b
   pub clock : a.now_ms ≡ b.now_ms
   pub written : after ≡ telemetry_frame m ++ drop 106 output
-  pub accepted : read_telemetry (telemetry_frame m) ≡ TelemetryRead.Frame m
+  pub accepted : read_telemetry (telemetry_frame m) ≡ Ok m
   pub readings : Merged a b m
 
 abbrev pub MergeClaim : Type 0
@@ -40,6 +40,6 @@ pub record Itself (s output after : List ℕ) (t : Telemetry) : Type 0 where
 
 abbrev pub ItselfClaim : Type 0
 ItselfClaim =
-    (config fence s output : List ℕ) (t : Telemetry) → Bytes s → (read_flight config fence).refused ≡ 0 →
-    read_telemetry s ≡ TelemetryRead.Frame t → 106 ≤ length output →
+    (config fence s output : List ℕ) (g : Flight) (t : Telemetry) → Bytes s → read_flight config fence ≡ Ok g →
+    read_telemetry s ≡ Ok t → 106 ≤ length output →
     ((merge_call config fence s s output).number ≡ 0) × Itself s output (merge_call config fence s s output).output t

@@ -34,7 +34,8 @@ pub fn action_shown(m: Mixture) -> Action
         action: m.wanted,
     };
     let now_ms = u32::from(m.recovery_elapsed);
-    arbiter::arbitrate(state, now_ms, 1, request, m.position_valid, m.clock_fault)
+    state
+        .arbitrate(now_ms, 1, request, m.position_valid, m.clock_fault)
         .output
         .action
 }

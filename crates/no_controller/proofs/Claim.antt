@@ -11,7 +11,7 @@ use Rattle.supervisor.specs.declared.Supervisor.{Supervisor}
 use Rattle.supervisor.specs.declared.Stepped.{Stepped}
 use Rattle.supervisor.specs.Settings.{Settings, Fed, fence_site, with_areas, fed_at}
 use Rattle.supervisor.specs.Step.{step}
-use Rattle.flight.specs.Flight.{read_flight}
+use Rattle.flight.specs.Flight.{flight_or_blank, read_flight}
 use Rattle.calls.specs.Form.{Form, state_size, telemetry_in, settings_of, form_of}
 use Rattle.calls.specs.Entry.{StepCall, output_frame, output_size, succeeded}
 use Rattle.calls.proofs.Declined.{declined_keeps}
@@ -47,7 +47,7 @@ module _ (form : Form) (cfg : Config) (beside : Beside form cfg) (off : cfg.rc_r
       let q = step_claim settings off y (fed_by form b) in
       let t = telemetry_same form a.telemetry b.telemetry h.telemetry n in
       let m : step settings (without_rc_clear x) (fed_at (fed_by form a).site (without_rc (telemetry_in form a.telemetry))) ≡ step settings (without_rc_clear y) (fed_at (fed_by form b).site (without_rc (telemetry_in form b.telemetry))) =
-      λ i. step settings (e i) (fed_at (with_areas (h.areas i) (fence_site (read_flight (h.config i) (h.fence i)).fence)) (t i)) in
+      λ i. step settings (e i) (fed_at (with_areas (h.areas i) (fence_site (flight_or_blank (read_flight (h.config i) (h.fence i))).fence)) (t i)) in
       record {
         decision = p.decision ∙ ap (λ (z : Stepped). z.decision) m ∙ sym q.decision;
         side = p.side ∙ ap (λ (z : Stepped). z.side) m ∙ sym q.side;

@@ -31,17 +31,18 @@ use Rattle.disarm.specs.Disarm.{gate_open, evaluate}
 use Rattle.clock.specs.Clock.{sound_clock, clock_step}
 use Rattle.supervisor.specs.Step.{fresh_supervisor, sense, decision_of, flown, step}
 use Rattle.wire.specs.Fields.{u8_at, number_at, u16_at, u32_at, f32_at, flag_at, byte_below, le_bytes, le8, le16, le32, le_f32, le_flag}
-use Rattle.wire.specs.Frame.{frame_head, frame_fault, frame_written}
+use Rattle.wire.specs.Frame.{frame_head, frame_written, check_frame, check_room}
 use Rattle.options.specs.Enums.{action_at, reason_at, le_action, le_reason}
 use Rattle.options.specs.Options.{zeros, valid_option, option_u8_at, option_u32_at, le_option_u32, option_f32_at}
 use Rattle.options.specs.Position.{vec3_at, le_vec3, option_position_at, le_option_position}
-use Rattle.frame_config.specs.ConfigFrame.{keeps_raised, config_at, read_config, freshness_cells, link_cells, fence_cells, battery_cells, energy_cells, flight_cells, config_cells, config_frame}
-use Rattle.frame_fence.specs.FenceFrame.{point_at, corners_at, corner_array, asks_once_round, fence_fault, corners_sent, read_fence, fence_rules, fence_of, corner_cells, fence_cells as sent_cells, fence_frame}
+use Rattle.frame_config.specs.ConfigFrame.{keeps_raised, config_at, check_config_frame, read_config, freshness_cells, link_cells, fence_cells, battery_cells, energy_cells, flight_cells, config_cells, config_frame}
+use Rattle.frame_fence.specs.FenceFrame.{point_at, corners_at, corner_array, asks_once_round, check_fence, corners_sent, read_fence, fence_rules, fence_of, corner_cells, fence_cells as sent_cells, fence_frame}
 use Rattle.frame_state.specs.StateFrame.{raised_read, raised_valid, timer_at, triggers_at, arbiter_at, state_at, timers_valid, state_valid, read_state, le_timer, le_links, le_fence, le_battery, le_input, le_triggers, le_arbiter, state_frame}
 use Rattle.frame_telemetry.specs.Readings.{fix_at, landed_at, option_gps_at, stamped_f32_at, stamped_bool_at, stamped_landed_at}
 use Rattle.frame_telemetry.specs.TelemetryFrame.{telemetry_at, telemetry_tests, telemetry_valid, read_telemetry, battery_cells as charge_cells, status_cells, telemetry_cells, telemetry_frame}
 use Rattle.frame_decision.specs.DecisionFrame.{decision_frame}
-use Rattle.flight.specs.Flight.{accept_flight, refused_flight, read_flight, step_flight}
+use Rattle.std.specs.Result.{is_ok}
+use Rattle.flight.specs.Flight.{accept_flight, blank_flight, read_flight, step_flight}
 use Rattle.calls.specs.Form.{base, state_size, form_of}
 use Rattle.calls.specs.Entry.{step_any, fresh_call}
 use Rattle.areas.specs.Clearance.{clearance}
@@ -76,10 +77,10 @@ slices =
 -- ---- the calls
 
 record Computed : Type 0 where
-  accepted : (read_flight not_required fence).refused ≡ 0
+  accepted : is_ok (read_flight not_required fence) ≡ true
   off : (read not_required).rc_required ≡ false
   kind : (read not_required).keeps_raised ≡ false
-  default_accepted : (read_flight config fence).refused ≡ 0
+  default_accepted : is_ok (read_flight config fence) ≡ true
   default_on : (read config).rc_required ≡ true
   default_kind : (read config).keeps_raised ≡ false
   linked_steps : (answer_to not_required linked).number ≡ 0
@@ -95,7 +96,7 @@ record Computed : Type 0 where
   shown_lost : shown_action (answer_to config lost).output ≡ Action.ReturnToLaunch
 
 computed : Computed
-unfolding linked lost damaged not_required add sub mul div neg lt le of_bits to_bits of_int round is_nan config fence slice in_flight state_bytes is_finite fabs is_negative fmax square_root set_request higher_request requested_action alt_m horizontal_dist_home wrapping_sub age fresh hold_met corner_fault same_point flat_turn cross2 mixed_turns area_term polygon_area polygon_tests polygon_new geofence_new side_length edge_signed_distance_by signed_distance nearest nearest_by contains bad_cell_count bad_capacity non_finite_param non_positive_speed negative_power bad_threshold_order outside_duration duration_out_of_range rtl_alt_outside_fence check_config validate_config default_config rtl_wh land_wh rtl_energy_at rtl_energy within_position within_velocity validate_position_sample validate_gps validate_percent validate_telemetry fresh_battery_percent fresh_remaining_wh fresh_voltage distance_between within_jump accept_sample apply_glitch_filter invalid_input stage_request gcs_stage gcs_clearing gcs_link rc_link gps ekf fence_approach fence_breach altitude_max altitude_min fence_family stale_battery battery_warn battery_low battery_critical battery energy_marginal energy held_set hold_pair raised_by raised_of fresh_triggers families link_requests fence_requests battery_requests requests next_triggers update apply_persistence apply_feasibility arbitrate gate_open evaluate sound_clock clock_step fresh_supervisor sense decision_of flown step u8_at number_at u16_at u32_at f32_at flag_at byte_below le_bytes le8 le16 le32 le_f32 le_flag frame_head frame_fault frame_written action_at reason_at le_action le_reason zeros valid_option option_u8_at option_u32_at le_option_u32 option_f32_at vec3_at le_vec3 option_position_at le_option_position keeps_raised config_at read_config freshness_cells link_cells fence_cells battery_cells energy_cells flight_cells config_cells config_frame point_at corners_at corner_array asks_once_round fence_fault corners_sent read_fence fence_rules fence_of corner_cells sent_cells fence_frame timer_at triggers_at arbiter_at state_at timers_valid state_valid raised_read raised_valid read_state le_timer le_links le_fence le_battery le_input le_triggers le_arbiter state_frame fix_at landed_at option_gps_at stamped_f32_at stamped_bool_at stamped_landed_at telemetry_at telemetry_tests telemetry_valid read_telemetry charge_cells status_cells telemetry_cells telemetry_frame decision_frame accept_flight refused_flight read_flight step_flight form_of step_any fresh_call bodies held_in areas_fault bodies_of clearance clearance_at
+unfolding check_room linked lost damaged not_required add sub mul div neg lt le of_bits to_bits of_int round is_nan config fence slice in_flight state_bytes is_finite fabs is_negative fmax square_root set_request higher_request requested_action alt_m horizontal_dist_home wrapping_sub age fresh hold_met corner_fault same_point flat_turn cross2 mixed_turns area_term polygon_area polygon_tests polygon_new geofence_new side_length edge_signed_distance_by signed_distance nearest nearest_by contains bad_cell_count bad_capacity non_finite_param non_positive_speed negative_power bad_threshold_order outside_duration duration_out_of_range rtl_alt_outside_fence check_config validate_config default_config rtl_wh land_wh rtl_energy_at rtl_energy within_position within_velocity validate_position_sample validate_gps validate_percent validate_telemetry fresh_battery_percent fresh_remaining_wh fresh_voltage distance_between within_jump accept_sample apply_glitch_filter invalid_input stage_request gcs_stage gcs_clearing gcs_link rc_link gps ekf fence_approach fence_breach altitude_max altitude_min fence_family stale_battery battery_warn battery_low battery_critical battery energy_marginal energy held_set hold_pair raised_by raised_of fresh_triggers families link_requests fence_requests battery_requests requests next_triggers update apply_persistence apply_feasibility arbitrate gate_open evaluate sound_clock clock_step fresh_supervisor sense decision_of flown step u8_at number_at u16_at u32_at f32_at flag_at byte_below le_bytes le8 le16 le32 le_f32 le_flag frame_head check_frame frame_written action_at reason_at le_action le_reason zeros valid_option option_u8_at option_u32_at le_option_u32 option_f32_at vec3_at le_vec3 option_position_at le_option_position keeps_raised config_at check_config_frame read_config freshness_cells link_cells fence_cells battery_cells energy_cells flight_cells config_cells config_frame point_at corners_at corner_array asks_once_round check_fence corners_sent read_fence fence_rules fence_of corner_cells sent_cells fence_frame timer_at triggers_at arbiter_at state_at timers_valid state_valid raised_read raised_valid read_state le_timer le_links le_fence le_battery le_input le_triggers le_arbiter state_frame fix_at landed_at option_gps_at stamped_f32_at stamped_bool_at stamped_landed_at telemetry_at telemetry_tests telemetry_valid read_telemetry charge_cells status_cells telemetry_cells telemetry_frame decision_frame accept_flight blank_flight read_flight step_flight form_of step_any fresh_call bodies held_in areas_fault bodies_of clearance clearance_at
 computed =
     record {
       accepted = refl;
@@ -129,7 +130,7 @@ same frame a b h = record { with_side = refl; config = refl; fence = refl; telem
 under : (frame a : List ℕ) → below a ≡ true → UnderConfig (form frame) slice (read frame) (call frame a ∷ [])
 under frame a h = (tested a h, (inr refl, tt))
 
-pair : (frame a b : List ℕ) → (read_flight frame fence).refused ≡ 0 → (read frame).keeps_raised ≡ false → below a ≡ true → below b ≡ true → EqualBut 94 100 a b → OnePair frame a b
+pair : (frame a b : List ℕ) → is_ok (read_flight frame fence) ≡ true → (read frame).keeps_raised ≡ false → below a ≡ true → below b ≡ true → EqualBut 94 100 a b → OnePair frame a b
 pair frame a b ok kind ha hb h =
     record { accepted = ok; room = room (read frame).keeps_raised kind; first_under = under frame a ha; second_under = under frame b hb; same = same frame a b h }
 

@@ -3,7 +3,8 @@ use Rattle.std.specs.Prelude.{ℕ, ◌≤◌, true, false, List, [], ◌∷◌, 
 use Rattle.types.specs.declared.Action.{Action}
 use Rattle.config.specs.declared.Config.{Config}
 use Rattle.frame_telemetry.specs.TelemetryFrame.{telemetry_frame}
-use Rattle.flight.specs.Flight.{read_flight}
+use Rattle.std.specs.Result.{is_ok}
+use Rattle.flight.specs.Flight.{flight_or_blank, read_flight}
 use Rattle.calls.specs.Form.{Form, base, state_size}
 use Rattle.calls.specs.Entry.{StepCall}
 use Rattle.run.specs.Run.{Call, answered, shown_action, UnderConfig}
@@ -15,7 +16,7 @@ unfoldable pub not_required : List ℕ
 not_required = set config 9 0
 
 abbrev pub read : List ℕ → Config
-read frame = (read_flight frame fence).cfg
+read frame = (flight_or_blank (read_flight frame fence)).cfg
 
 -- the form of a state of kind 5 or 12
 abbrev pub form : List ℕ → Form
@@ -44,7 +45,7 @@ rc_timer image = take 5 (drop 11 image)
 
 -- two runs of one call each, under one configuration, that differ in rc_ok alone
 pub record OnePair (frame first second : List ℕ) : Type 0 where
-  pub accepted : (read_flight frame fence).refused ≡ 0
+  pub accepted : is_ok (read_flight frame fence) ≡ true
   pub room : state_size (form frame) ≤ length slice
   pub first_under : UnderConfig (form frame) slice (read frame) (call frame first ∷ [])
   pub second_under : UnderConfig (form frame) slice (read frame) (call frame second ∷ [])

@@ -1,24 +1,24 @@
 -- The star and its neighbours, worked out. Assumes nothing.
-use Rattle.std.specs.Prelude.{Ok, Err}
+use Rattle.std.specs.Prelude.{Some, Ok, Err}
 use mathlib.Core.Path.{◌≡◌, refl}
 use mathlib.Core.Bool.{true, false}
 use lib.Ieee.{add, sub, mul, neg, lt, le, eq, of_bits, to_bits, round}
 use Rattle.float32.specs.Libm.{is_finite, fabs}
 use Rattle.wire.specs.Fields.{u8_at, number_at, u16_at, u32_at, f32_at, le8, le_bytes, le16, le32, le_f32}
-use Rattle.wire.specs.Frame.{frame_fault, frame_head}
+use Rattle.wire.specs.Frame.{frame_head, check_frame}
 use Rattle.corners.specs.OnceRound.{north_sign, sign_changes}
 use Rattle.corners.specs.Acceptance.{polygon_fault, corner_fault, same_point, flat_turn, cross2, mixed_turns, area_term, polygon_area, polygon_tests}
 use Rattle.corners.specs.declared.FenceError.{FenceError}
 use Rattle.geometry.specs.Polygon.{polygon_new, geofence_new}
-use Rattle.frame_fence.specs.FenceFrame.{point_at, corners_at, corner_array, asks_once_round, fence_fault, corners_sent, read_fence, fence_rules, fence_of, corner_cells, fence_cells, fence_frame}
+use Rattle.frame_fence.specs.FenceFrame.{point_at, corners_at, corner_array, asks_once_round, check_fence, corners_sent, read_fence, fence_rules, fence_of, corner_cells, fence_cells, fence_frame}
 use Rattle.once_round.specs.Star.{star, small_star, zigzag, square, frame_of, answer, Star}
 
-as_kind_2 : answer (frame_of false star) ≡ Ok tt
-unfolding add sub mul lt le eq neg of_bits to_bits round is_finite fabs corner_fault same_point flat_turn cross2 mixed_turns area_term polygon_area polygon_tests polygon_new geofence_new u8_at number_at u16_at u32_at f32_at le8 le_bytes le16 le32 le_f32 frame_fault frame_head point_at corners_at corner_array asks_once_round fence_fault corners_sent read_fence fence_rules fence_of corner_cells fence_cells fence_frame
+as_kind_2 : answer (frame_of false star) ≡ Some (Ok tt)
+unfolding add sub mul lt le eq neg of_bits to_bits round is_finite fabs corner_fault same_point flat_turn cross2 mixed_turns area_term polygon_area polygon_tests polygon_new geofence_new u8_at number_at u16_at u32_at f32_at le8 le_bytes le16 le32 le_f32 check_frame frame_head point_at corners_at corner_array asks_once_round check_fence corners_sent read_fence fence_rules fence_of corner_cells fence_cells fence_frame
 as_kind_2 = refl
 
-as_kind_8 : answer (frame_of true star) ≡ Err FenceError.NotOnceRound
-unfolding add sub mul lt le eq neg of_bits to_bits round is_finite fabs corner_fault same_point flat_turn cross2 mixed_turns area_term polygon_area polygon_tests polygon_new geofence_new north_sign sign_changes u8_at number_at u16_at u32_at f32_at le8 le_bytes le16 le32 le_f32 frame_fault frame_head point_at corners_at corner_array asks_once_round fence_fault corners_sent read_fence fence_rules fence_of corner_cells fence_cells fence_frame
+as_kind_8 : answer (frame_of true star) ≡ Some (Err FenceError.NotOnceRound)
+unfolding add sub mul lt le eq neg of_bits to_bits round is_finite fabs corner_fault same_point flat_turn cross2 mixed_turns area_term polygon_area polygon_tests polygon_new geofence_new north_sign sign_changes u8_at number_at u16_at u32_at f32_at le8 le_bytes le16 le32 le_f32 check_frame frame_head point_at corners_at corner_array asks_once_round check_fence corners_sent read_fence fence_rules fence_of corner_cells fence_cells fence_frame
 as_kind_8 = refl
 
 small_as_kind_2 : polygon_fault false 5 small_star ≡ Err FenceError.AreaTooSmall

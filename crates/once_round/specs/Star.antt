@@ -1,6 +1,7 @@
 -- Document 02, L5: "A surveyor drew a five-pointed star and it was taken as convex, since all its turns have one sign. … Kind 2 keeps the Rust's rule. …
 -- Turned away: 33 where the sign changes more than twice, after 16 and before 17." Assumes nothing.
-use Rattle.std.specs.Prelude.{ℕ, ◌≡◌, Bool, true, false, List, [], ◌∷◌, Float, Result, Ok, Err, ⊤}
+use Rattle.std.specs.Prelude.{ℕ, ◌≡◌, Bool, true, false, List, [], ◌∷◌, Float, Option, Some, Result, Ok, Err, ⊤, option_map}
+use Rattle.std.specs.Result.{result_ok, result_and}
 use Rattle.std.specs.Float.{binary32}
 use Rattle.std.specs.Float.Ieee.{round}
 use Rattle.types.specs.declared.Point2.{Point2}
@@ -39,13 +40,14 @@ square = point (above_zero 0) (above_zero 0) ∷ point (above_zero 0) (above_zer
 abbrev pub frame_of : Bool → List Point2 → List ℕ
 frame_of once l = fence_frame once 5 (above_zero 5) (above_zero 120) l
 
-abbrev pub answer : List ℕ → Result ⊤ FenceError
-answer frame = (fence_of (read_fence frame)).result
+-- what the fence rules answer to the fence that a frame sends
+abbrev pub answer : List ℕ → Option (Result ⊤ FenceError)
+answer frame = option_map (λ r. result_and (fence_of r) (Ok tt)) (result_ok (read_fence frame))
 
 pub record Star : Type 0 where
   -- the star is taken as kind 2 and turned away as kind 8
-  pub as_kind_2 : answer (frame_of false star) ≡ Ok tt
-  pub as_kind_8 : answer (frame_of true star) ≡ Err FenceError.NotOnceRound
+  pub as_kind_2 : answer (frame_of false star) ≡ Some (Ok tt)
+  pub as_kind_8 : answer (frame_of true star) ≡ Some (Err FenceError.NotOnceRound)
   pub number : fence_error_number FenceError.NotOnceRound ≡ 33
   -- "before 17"
   pub small_as_kind_2 : polygon_fault false 5 small_star ≡ Err FenceError.AreaTooSmall

@@ -7,8 +7,8 @@ use native.Mathlib.Nat.{zero-add, add-zero, suc-add}
 use native.Mathlib.Omega.{arith}
 use lib.Dec.{eqb, ltb}
 use lib.ListN.{length}
-use borrow.Author.Tests.{eqb-true, ne_eqb, ltb-true, ltb-false}
-use Rattle.wire.specs.Fields.{u8_at, number_at, u32_at}
+use borrow.Author.Tests.{eqb-true, ne_eqb, ltb-true, ltb-false, lt-ltb}
+use Rattle.wire.specs.Fields.{u8_at, number_at, u32_at, byte_below}
 use Rattle.options.specs.Options.{zeros}
 use Rattle.wire.proofs.Past.{u8_past}
 use Rattle.wire.proofs.Whole.{first, second}
@@ -56,6 +56,13 @@ zero_number w s i h = eqb-true (number_at w s i) 0 (zeros_number w s i ∙ h)
 pub zeros_u8 : (s : List ℕ) (i : ℕ) → zeros s i 1 ≡ eqb (u8_at s i) 0
 unfolding zeros
 zeros_u8 s i = and-true (eqb (u8_at s i) 0)
+
+-- a byte of 0 is in every range
+pub zero_below : (k : ℕ) (s : List ℕ) (i : ℕ) → zeros s i 1 ≡ true → byte_below s i (suc k) ≡ true
+unfolding byte_below
+zero_below k s i z =
+    let e : u8_at s i ≡ 0 = eqb-true (u8_at s i) 0 (sym (zeros_u8 s i) ∙ z) in
+    lt-ltb (u8_at s i) (suc k) (omega arith)
 
 pub zeros_u32 : (s : List ℕ) (i : ℕ) → zeros s i 4 ≡ eqb (u32_at s i) 0
 unfolding u32_at

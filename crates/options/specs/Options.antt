@@ -13,21 +13,29 @@ zeros s i (suc n) = eqb (u8_at s i) 0 && zeros s (i + 1) n
 unfoldable pub valid_option : List ℕ → ℕ → ℕ → Bool
 valid_option s i n = cond (eqb (u8_at s i) 0) (zeros s (i + 1) n) (eqb (u8_at s i) 1)
 
+-- a value after its flag, where the flag is 1
+abbrev pub option_at : {A : Type 0} → (List ℕ → ℕ → A) → List ℕ → ℕ → Option A
+option_at value s i = cond (flag_at s i) (Some (value s (i + 1))) None
+
+-- a flag and the value's bytes, or those of the value zero
+abbrev pub le_option : {A : Type 0} → (A → List ℕ) → A → Option A → List ℕ
+le_option bytes none o = le_flag (is_some o) ++ bytes (unwrap_or o none)
+
 unfoldable pub option_u8_at : List ℕ → ℕ → Option ℕ
-option_u8_at s i = cond (flag_at s i) (Some (u8_at s (i + 1))) None
+option_u8_at s i = option_at u8_at s i
 
 unfoldable pub le_option_u8 : Option ℕ → List ℕ
-le_option_u8 o = le_flag (is_some o) ++ le8 (unwrap_or o 0)
+le_option_u8 o = le_option le8 0 o
 
 unfoldable pub option_u32_at : List ℕ → ℕ → Option ℕ
-option_u32_at s i = cond (flag_at s i) (Some (u32_at s (i + 1))) None
+option_u32_at s i = option_at u32_at s i
 
 unfoldable pub le_option_u32 : Option ℕ → List ℕ
-le_option_u32 o = le_flag (is_some o) ++ le32 (unwrap_or o 0)
+le_option_u32 o = le_option le32 0 o
 
 unfoldable pub option_f32_at : List ℕ → ℕ → Option Float
-option_f32_at s i = cond (flag_at s i) (Some (f32_at s (i + 1))) None
+option_f32_at s i = option_at f32_at s i
 
 -- +0, whose pattern is 0, for an absent float
 unfoldable pub le_option_f32 : Option Float → List ℕ
-le_option_f32 o = le_flag (is_some o) ++ le_f32 (unwrap_or o (of_bits binary32 0))
+le_option_f32 o = le_option le_f32 (of_bits binary32 0) o

@@ -19,6 +19,12 @@ zero_vec3 = record { n = of_bits binary32 0; e = of_bits binary32 0; d = of_bits
 abbrev pub zero_sample : PositionSample
 zero_sample = record { t_ms = 0; pos = zero_vec3; vel = zero_vec3 }
 
+unfoldable pub position_at : List ℕ → ℕ → PositionSample
+position_at s i = record { t_ms = u32_at s i; pos = vec3_at s (i + 4); vel = vec3_at s (i + 16) }
+
+unfoldable pub le_position : PositionSample → List ℕ
+le_position p = le32 p.t_ms ++ (le_vec3 p.pos ++ le_vec3 p.vel)
+
 unfoldable pub option_position_at : List ℕ → ℕ → Option PositionSample
 option_position_at s i =
     cond (flag_at s i)

@@ -1,14 +1,17 @@
 // Values that may be absent and enums, in a frame: tested, read and written. An absent value is all zero bytes.
-#![tactic(auto)]
+#![tactic(auto, unfolding(crate::specs::Position::vec3_at, crate::specs::Position::position_at, crate::specs::Enums::action_at, crate::specs::Enums::reason_at, crate::specs::Enums::fix_at, crate::specs::Enums::landed_at, crate::specs::Enums::le_action, crate::specs::Enums::le_reason))]
 
-ghost use Rattle.std.specs.Prelude.{◌≡◌, ◌∷◌, ◌+◌, ◌^◌, ◌<◌, ◌≤◌, length};
+ghost use Rattle.std.specs.Float.{binary32};
+ghost use Rattle.std.specs.Float.Ieee.{of_bits};
+ghost use Rattle.std.specs.Prelude.{ℕ, List, false, ◌≡◌, ◌+◌, ◌^◌, ◌<◌, ◌≤◌, length};
 ghost use Rattle.std.proofs.lemmas.List.Edits.{sets};
-ghost use Rattle.wire.specs.Fields.{u32_at, le32};
-ghost use Rattle.options.specs.Enums.{action_at, reason_at, le_action, le_reason};
-ghost use Rattle.options.specs.Options.{zeros, valid_option, option_u8_at, option_u32_at, le_option_u32, option_f32_at, le_option_f32};
-ghost use Rattle.options.specs.Position.{vec3_at, le_vec3, zero_sample, option_position_at, le_option_position};
+ghost use Rattle.types.specs.declared.LandedState.{LandedState};
+ghost use Rattle.wire.specs.Fields.{u8_at, u32_at, f32_at, flag_at, le8, le32, le_f32, le_flag};
+ghost use Rattle.options.specs.Enums.{action_at, reason_at, fix_at, landed_at, le_action, le_reason, le_landed};
+ghost use Rattle.options.specs.Options.{zeros, valid_option, option_at, le_option};
+ghost use Rattle.options.specs.Position.{vec3_at, le_vec3, zero_sample, position_at, le_position};
 
-use types::{Action, PositionSample, Reason, Vec3};
+use types::{Action, GpsFix, LandedState, PositionSample, Reason, Vec3};
 
 // The number of four bytes that are all within the slice.
 fn word(s: &[u8], at: usize) -> u32
@@ -50,7 +53,7 @@ pub fn option_valid(s: &[u8], at: usize, n: usize) -> bool
     if at < s.len() {
         let f = s[at];
         if f == 0 {
-            zero_words(s, at + 1, wire::smaller(n, s.len() - (at + 1)))
+            zero_words(s, at + 1, n.min(s.len() - (at + 1)))
         } else {
             f == 1
         }
@@ -59,71 +62,141 @@ pub fn option_valid(s: &[u8], at: usize, n: usize) -> bool
     }
 }
 
-pub fn option_u8_at(s: &[u8], at: usize) -> Option<u8>
-    ensures { result ≡ option_u8_at s.now at }
+// A field of a frame that may be absent: how its value is read and written, and the value whose bytes stand where it is absent.
+pub trait Field: Copy {
+    ghost read: { List ℕ → ℕ → Self };
+
+    ghost bytes: { Self → List ℕ };
+
+    ghost zero: { Self };
+
+    fn read(s: &[u8], at: usize) -> Self
+        ensures { result ≡ read s.now at };
+
+    fn put(self, s: &mut [u8], at: usize)
+        ensures { s.new ≡ sets s.old at (bytes self) };
+
+    fn zero() -> Self
+        ensures { result ≡ zero };
+}
+
+impl Field for u8 {
+    ghost read = { u8_at };
+
+    ghost bytes = { le8 };
+
+    ghost zero = { 0 };
+
+    fn read(s: &[u8], at: usize) -> u8 {
+        wire::u8_at(s, at)
+    }
+
+    fn put(self, s: &mut [u8], at: usize) {
+        wire::put_u8(s, at, self);
+    }
+
+    fn zero() -> u8 {
+        0
+    }
+}
+
+impl Field for u32 {
+    ghost read = { u32_at };
+
+    ghost bytes = { le32 };
+
+    ghost zero = { 0 };
+
+    fn read(s: &[u8], at: usize) -> u32 {
+        wire::u32_at(s, at)
+    }
+
+    fn put(self, s: &mut [u8], at: usize) {
+        wire::put_u32(s, at, self);
+    }
+
+    fn zero() -> u32 {
+        0
+    }
+}
+
+impl Field for f32 {
+    ghost read = { f32_at };
+
+    ghost bytes = { le_f32 };
+
+    ghost zero = { of_bits binary32 0 };
+
+    fn read(s: &[u8], at: usize) -> f32 {
+        wire::f32_at(s, at)
+    }
+
+    fn put(self, s: &mut [u8], at: usize) {
+        wire::put_f32(s, at, self);
+    }
+
+    fn zero() -> f32 {
+        0.0
+    }
+}
+
+impl Field for bool {
+    ghost read = { flag_at };
+
+    ghost bytes = { le_flag };
+
+    ghost zero = { false };
+
+    fn read(s: &[u8], at: usize) -> bool {
+        wire::flag_at(s, at)
+    }
+
+    fn put(self, s: &mut [u8], at: usize) {
+        wire::put_flag(s, at, self);
+    }
+
+    fn zero() -> bool {
+        false
+    }
+}
+
+impl Field for LandedState {
+    ghost read = { landed_at };
+
+    ghost bytes = { le_landed };
+
+    ghost zero = { LandedState.Undefined };
+
+    // A byte that is no state's, which is refused before, is read as Undefined.
+    fn read(s: &[u8], at: usize) -> LandedState {
+        LandedState::try_from(wire::u8_at(s, at)).unwrap_or(LandedState::Undefined)
+    }
+
+    fn put(self, s: &mut [u8], at: usize) {
+        wire::put_u8(s, at, u8::from(self));
+    }
+
+    fn zero() -> LandedState {
+        LandedState::Undefined
+    }
+}
+
+pub fn option_at<T: Field>(s: &[u8], at: usize) -> Option<T>
+    ensures { result ≡ option_at T.read s.now at }
 {
     if wire::flag_at(s, at) {
-        Some(wire::u8_at(s, at + 1))
+        Some(T::read(s, at + 1))
     } else {
         None
     }
 }
 
-pub fn option_u32_at(s: &[u8], at: usize) -> Option<u32>
-    ensures { result ≡ option_u32_at s.now at }
-{
-    if wire::flag_at(s, at) {
-        Some(wire::u32_at(s, at + 1))
-    } else {
-        None
-    }
-}
-
-// A flag's byte and a number after it, all within the slice.
-fn put_flagged(s: &mut [u8], at: usize, flag: u8, n: u32)
-    requires { at + 5 ≤ length s.old }
-    ensures { s.new ≡ sets s.old at (flag ∷ le32 n) }
-{
-    s[at] = flag;
-    s[at + 1] = (n % 256) as u8;
-    s[at + 2] = (n / 256 % 256) as u8;
-    s[at + 3] = (n / 65536 % 256) as u8;
-    s[at + 4] = (n / 16777216 % 256) as u8;
-}
-
-// Where all five bytes are within the slice, they are written with no further test.
-pub fn put_option_u32(s: &mut [u8], at: usize, o: Option<u32>)
-    ensures { s.new ≡ sets s.old at (le_option_u32 o) }
-{
-    if at < s.len() {
-        if at + 4 < s.len() {
-            match o {
-                Some(n) => put_flagged(s, at, 1, n),
-                None => put_flagged(s, at, 0, 0),
-            }
-        } else {
-            wire::put_flag(s, at, o.is_some());
-            wire::put_u32(s, at + 1, o.unwrap_or(0));
-        }
-    }
-}
-
-pub fn option_f32_at(s: &[u8], at: usize) -> Option<f32>
-    ensures { result ≡ option_f32_at s.now at }
-{
-    if wire::flag_at(s, at) {
-        Some(wire::f32_at(s, at + 1))
-    } else {
-        None
-    }
-}
-
-pub fn put_option_f32(s: &mut [u8], at: usize, o: Option<f32>)
-    ensures { s.new ≡ sets s.old at (le_option_f32 o) }
+pub fn put_option<T: Field>(s: &mut [u8], at: usize, o: Option<T>)
+    ensures { s.new ≡ sets s.old at (le_option T.bytes T.zero o) }
 {
     if at < s.len() {
         wire::put_flag(s, at, o.is_some());
-        wire::put_f32(s, at + 1, o.unwrap_or(0.0));
+        o.unwrap_or(T::zero()).put(s, at + 1);
     }
 }
 
@@ -174,55 +247,59 @@ fn zero_sample() -> PositionSample
 }
 
 // A reading whose bytes may reach past the end.
-fn position_past(s: &[u8], at: usize) -> Option<PositionSample>
-    ensures { result ≡ option_position_at s.now at }
+fn position_past(s: &[u8], at: usize) -> PositionSample
+    requires { at < 2 ^ 63 }
+    ensures { result ≡ position_at s.now at }
 {
-    if wire::flag_at(s, at) {
-        let t_ms = wire::u32_at(s, at + 1);
-        let pos = vec3_at(s, at + 5);
-        let vel = vec3_at(s, at + 17);
-        Some(PositionSample { t_ms, pos, vel })
-    } else {
-        None
+    PositionSample {
+        t_ms: wire::u32_at(s, at),
+        pos: vec3_at(s, at + 4),
+        vel: vec3_at(s, at + 16),
     }
 }
 
 // A reading whose bytes are all within the slice.
-fn position_in(s: &[u8], at: usize) -> Option<PositionSample>
-    requires { at + 29 ≤ length s.now }
-    ensures { result ≡ option_position_at s.now at }
+fn position_in(s: &[u8], at: usize) -> PositionSample
+    requires { at + 28 ≤ length s.now }
+    ensures { result ≡ position_at s.now at }
 {
-    if s[at] == 1 {
-        let t_ms = word(s, at + 1);
-        let pos = vec3_in(s, at + 5);
-        let vel = vec3_in(s, at + 17);
-        Some(PositionSample { t_ms, pos, vel })
-    } else {
-        None
+    PositionSample {
+        t_ms: word(s, at),
+        pos: vec3_in(s, at + 4),
+        vel: vec3_in(s, at + 16),
     }
 }
 
-// Where all 29 bytes are within the slice, they are read with no further test.
-pub fn option_position_at(s: &[u8], at: usize) -> Option<PositionSample>
-    ensures { result ≡ option_position_at s.now at }
-{
-    if at < s.len() {
-        if at + 28 < s.len() {
-            return position_in(s, at);
+impl Field for PositionSample {
+    ghost read = { position_at };
+
+    ghost bytes = { le_position };
+
+    ghost zero = { zero_sample };
+
+    // Where all 28 bytes are within the slice, they are read with no further test.
+    fn read(s: &[u8], at: usize) -> PositionSample {
+        if at < s.len() {
+            if at + 27 < s.len() {
+                position_in(s, at)
+            } else {
+                position_past(s, at)
+            }
+        } else {
+            zero_sample()
         }
     }
-    position_past(s, at)
-}
 
-pub fn put_option_position(s: &mut [u8], at: usize, o: Option<PositionSample>)
-    ensures { s.new ≡ sets s.old at (le_option_position o) }
-{
-    if at < s.len() {
-        let p = o.unwrap_or(zero_sample());
-        wire::put_flag(s, at, o.is_some());
-        wire::put_u32(s, at + 1, p.t_ms);
-        put_vec3(s, at + 5, p.pos);
-        put_vec3(s, at + 17, p.vel);
+    fn put(self, s: &mut [u8], at: usize) {
+        if at < s.len() {
+            wire::put_u32(s, at, self.t_ms);
+            put_vec3(s, at + 4, self.pos);
+            put_vec3(s, at + 16, self.vel);
+        }
+    }
+
+    fn zero() -> PositionSample {
+        zero_sample()
     }
 }
 
@@ -250,4 +327,11 @@ pub fn put_reason(s: &mut [u8], at: usize, r: Reason)
     ensures { s.new ≡ sets s.old at (le_reason r) }
 {
     wire::put_u8(s, at, r.index() as u8);
+}
+
+// A byte that is no fix's, which `byte_below` refuses before, is read as None.
+pub fn fix_at(s: &[u8], at: usize) -> GpsFix
+    ensures { result ≡ fix_at s.now at }
+{
+    GpsFix::try_from(wire::u8_at(s, at)).unwrap_or(GpsFix::None)
 }

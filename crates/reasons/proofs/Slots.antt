@@ -11,9 +11,8 @@ use Rattle.types.specs.declared.Action.{Action}
 use Rattle.types.specs.declared.Reason.{Reason}
 use Rattle.types.specs.declared.ActiveSet.{ActiveSet}
 use Rattle.types.specs.Numbers.{index}
-use Rattle.types.specs.ActiveSet.{empty_set, set_request}
+use Rattle.types.specs.ActiveSet.{empty_set, set_request, set_if, set_option}
 use Rattle.types.proofs.Slots.{index_lt, index_tells}
-use Rattle.triggers.specs.Update.{set_if, set_option}
 use Rattle.reasons.specs.Reasons.{◌when◌, filed_on_disarm}
 use Rattle.reasons.specs.Claim.{slot_for, Files}
 

@@ -1,14 +1,15 @@
 -- What the tests of a polygon tell: its corners are Accepted. Assumes nothing.
 use Rattle.std.specs.Prelude.{Result, Ok, Err, ⊤}
-use mathlib.Core.Path.{◌≡◌, refl, sym, ◌∙◌}
+use mathlib.Core.Path.{◌≡◌, refl}
 use mathlib.Core.Bool.{Bool, true, false, not, ◌||◌}
-use mathlib.Core.List.{List, [], ◌∷◌, foldl}
+use mathlib.Core.List.{List, [], ◌∷◌}
 use native.Mathlib.Omega.{arith}
 use Prim.Native.Nat.{ℕ}
 use lib.Ieee.{lt}
 use Rattle.rings.specs.Spelling.{All}
 use Rattle.rings.specs.Corner.{Accepted}
-use Rattle.corners.specs.Ring.{any_meets, tails}
+use Rattle.corners.specs.Ring.{tails}
+use Rattle.std.specs.List.{list_any}
 use Rattle.corners.specs.Acceptance.{recurs}
 use Rattle.float32.specs.Libm.{is_finite}
 use Rattle.float32.specs.Libm.{fabs}
@@ -22,18 +23,13 @@ never : (e : FenceError) → ◌≡◌ {A = Result ⊤ FenceError} (Err e) (Ok t
 never e h = let z : ◌≡◌ {A = ℕ} 0 1 = cc in omega arith
 
 -- every one of the tests is passed where the first fault is none
-module _ {A : Type 0} (f : A → Result ⊤ FenceError) where
-  fault_stays : (e : FenceError) (l : List A) → foldl (λ v a. result_and v (f a)) (Err e) l ≡ Err e
-  fault_stays e [] = refl
-  fault_stays e (a ∷ l) = fault_stays e l
+both : {v w : Result ⊤ FenceError} → result_and v w ≡ Ok tt → (v ≡ Ok tt) × (w ≡ Ok tt)
+both {v = Ok tt} h = (refl, h)
+both {v = Err e} h = absurd (never e h)
 
-  pub first_ok : (l : List A) → first_fault f l ≡ Ok tt → All (λ a. f a ≡ Ok tt) l
-  first_ok [] h = tt
-  first_ok (a ∷ l) h = by (f a) refl (λ k. first_ok l k)
-    where
-      by : (r : Result ⊤ FenceError) → f a ≡ r → (first_fault f l ≡ Ok tt → All (λ a. f a ≡ Ok tt) l) → (f a ≡ Ok tt) × All (λ a. f a ≡ Ok tt) l
-      by (Ok tt) e next = (e, next (rw e at h))
-      by (Err x) e next = absurd (never x (sym (fault_stays x l) ∙ (rw e at h)))
+pub first_ok : {A : Type 0} (f : A → Result ⊤ FenceError) (l : List A) → first_fault f l ≡ Ok tt → All (λ a. f a ≡ Ok tt) l
+first_ok f [] h = tt
+first_ok f (a ∷ l) h = let k = both h in (k.0, first_ok f l k.1)
 
 no_fault : (b : Bool) (e : FenceError) → fault_if b e ≡ Ok tt → b ≡ false
 no_fault true e h = absurd (never e h)
@@ -59,4 +55,4 @@ pub accepted : (once : Bool) (n : ℕ) (l : List Point2) → polygon_fault once 
 unfolding polygon_tests
 accepted once n l h =
     let t = first_ok (λ v. v) (polygon_tests once n l) h in
-    record { finite = all_finite l (first_ok corner_fault l t.1.1.0); apart = no_fault (any_meets recurs (tails l)) FenceError.DuplicateVertex t.1.1.1.0 }
+    record { finite = all_finite l (first_ok corner_fault l t.1.1.0); apart = no_fault (list_any recurs (tails l)) FenceError.DuplicateVertex t.1.1.1.0 }

@@ -2,11 +2,13 @@
 use mathlib.Core.Path.{◌≡◌, refl, sym, ◌∙◌}
 use mathlib.Core.Bool.{Bool, true, false, ◌&&◌, ◌||◌, true≢false, false≢true, and-eq-true_iff}
 use mathlib.Core.Logic.{◌⊎◌, inl, inr}
-use mathlib.Core.List.{List, [], ◌∷◌, foldl}
+use mathlib.Core.List.{List, [], ◌∷◌}
 use lib.Ieee.{Float, nan, inf, fin, lt, eq}
 use Rattle.rings.specs.Spelling.{All, Ordered, Settled, Order}
 use Rattle.rings.specs.Corner.{before, Accepted}
-use Rattle.corners.specs.Ring.{any_meets, tails}
+use Rattle.std.specs.List.{list_any}
+use Rattle.std.proofs.lemmas.Bool.{or_parts}
+use Rattle.corners.specs.Ring.{tails}
 use Rattle.float32.specs.Libm.{is_finite}
 use Rattle.corners.specs.Acceptance.{same_point, recurs}
 use Rattle.types.specs.declared.Point2.{Point2}
@@ -91,28 +93,16 @@ ordered p q f g h = by (decide (lt p.n q.n)) (decide (eq p.n q.n)) (decide (lt p
     by (inr a) (inl b) (inr c) (inl d) = absurd (true≢false (sym (and_intro (eq p.n q.n) (eq p.e q.e) b d) ∙ h))
 
 -- ---- accepted corners are settled
-module _ {A : Type 0} (f : A → Bool) where
-  any_true : (l : List A) → foldl (λ b a. b || f a) true l ≡ true
-  any_true [] = refl
-  any_true (a ∷ l) = any_true l
-
-  any_cons : (a : A) (l : List A) → any_meets f (a ∷ l) ≡ false → (f a ≡ false) × (any_meets f l ≡ false)
-  any_cons a l h = by (f a) refl
-    where
-      by : (b : Bool) → f a ≡ b → (f a ≡ false) × (any_meets f l ≡ false)
-      by true e = absurd (true≢false (sym (any_true l) ∙ rw e at h))
-      by false e = (e, rw e at h)
-
-settled_by : (l : List Point2) → All Finite l → any_meets recurs (tails l) ≡ false → Settled before l
+settled_by : (l : List Point2) → All Finite l → list_any recurs (tails l) ≡ false → Settled before l
 settled_by [] f h = tt
 settled_by (p ∷ l) f h =
-    let k = any_cons recurs (p, l) (tails l) h in
+    let k = or_parts (recurs (p, l)) (list_any recurs (tails l)) h in
     (row l f.1 k.0, settled_by l f.1 k.1)
   where
-    row : (m : List Point2) → All Finite m → any_meets (same_point p) m ≡ false → All (Ordered before p) m
+    row : (m : List Point2) → All Finite m → list_any (same_point p) m ≡ false → All (Ordered before p) m
     row [] g e = tt
     row (q ∷ m) g e =
-        let k = any_cons (same_point p) q m e in
+        let k = or_parts (same_point p q) (list_any (same_point p) m) e in
         (ordered p q f.0 g.0 k.0, row m g.1 k.1)
 
 pub settled : {l : List Point2} → Accepted l → Settled before l

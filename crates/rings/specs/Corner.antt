@@ -1,13 +1,14 @@
 -- The corners of a fence: their order, every −0 as 0, and what is written. Assumes nothing.
-use Rattle.std.specs.Prelude.{ℕ, ◌+◌, ◌-◌, ◌≡◌, Bool, true, false, ◌&&◌, ◌||◌, cond, List, [], ◌∷◌, ◌++◌, map, ltb, length, get_or, replicate, Float}
-use Rattle.std.specs.Float.{nan, binary32}
+use Rattle.std.specs.Prelude.{◌-◌, ◌≡◌, Bool, true, false, ◌&&◌, ◌||◌, cond, List, [], ◌∷◌, ◌++◌, map, length, replicate, Float}
+use Rattle.std.specs.Float.{binary32}
 use Rattle.std.specs.Float.Ieee.{fits, lt, eq}
 use Rattle.rings.specs.Ring.{SameRing}
 use Rattle.rings.specs.Spelling.{All, spelled}
 use Rattle.types.specs.declared.Point2.{Point2}
 use Rattle.float32.specs.Binary32.{zero_f}
 use Rattle.float32.specs.Libm.{is_finite}
-use Rattle.corners.specs.Ring.{any_meets, tails}
+use Rattle.std.specs.List.{list_any}
+use Rattle.corners.specs.Ring.{tails}
 use Rattle.corners.specs.Acceptance.{same_point, recurs}
 use Rattle.geometry.specs.Polygon.{zero_point}
 use Rattle.rings.specs.declared.Corners.{Corners}
@@ -30,7 +31,7 @@ written l = spelled before (map plain l)
 -- of the tests that accept corners, the two that matter here: each is finite, and none is again among those after it
 pub record Accepted (l : List Point2) : Type 0 where
   pub finite : All (λ p. (is_finite p.n ≡ true) × (is_finite p.e ≡ true)) l
-  pub apart : any_meets recurs (tails l) ≡ false
+  pub apart : list_any recurs (tails l) ≡ false
 
 -- the corners were read from bytes
 abbrev pub Read : List Point2 → Type 0
@@ -48,19 +49,6 @@ pub record SameFence (l m : List Point2) : Type 0 where
   pub way : List Point2
   pub ring : SameRing l way
   pub alike : Alike way m
-
--- ---- by places, for the code
--- what an array's read gives past its end: never met
-abbrev pub nowhere : Point2
-nowhere = record { n = nan; e = nan }
-
--- the place i after k of a ring of n
-abbrev pub around : ℕ → ℕ → ℕ → ℕ
-around k i n = cond (ltb (k + i) n) (k + i) (k + i - n)
-
--- whether the corner before the place k is less than the one after it
-abbrev pub goes_back : List Point2 → ℕ → ℕ → Bool
-goes_back l k n = before (get_or l (around k (n - 1) n) nowhere) (get_or l (around k 1 n) nowhere)
 
 -- the corners of a ring; unused places are zero
 abbrev pub held : List Point2 → Corners

@@ -1,11 +1,9 @@
 -- What a run needs of each form of a state's frame: its size, that it reads back, and that a step keeps a state within it. Assumes nothing.
 use Prim.Native.Nat.{ℕ}
-use mathlib.Core.Bool.{Bool, true, false, cond}
+use mathlib.Core.Bool.{Bool, true, false}
 use mathlib.Core.List.{List}
-use mathlib.Core.Path.{◌≡◌, refl, ap, sym, subst}
-use lib.Dec.{eqb}
+use mathlib.Core.Path.{◌≡◌, refl, ap, sym, subst, ◌∙◌}
 use lib.ListN.{length, replicate}
-use borrow.Author.Tests.{eqb-false}
 use Rattle.config.specs.declared.Config.{Config}
 use Rattle.supervisor.specs.declared.Supervisor.{Supervisor}
 use Rattle.supervisor.specs.Settings.{Site, Fed, fed_at}
@@ -13,12 +11,15 @@ use Rattle.supervisor.specs.Step.{fresh_supervisor, step}
 use Rattle.supervisor.specs.Rules.{Rules, RaisedFits}
 use Rattle.supervisor.proofs.Rules.{fresh_fits, step_fits}
 use Rattle.wire.specs.Fields.{Bytes, u8_at, number_at, u16_at, le_bytes, le16}
-use Rattle.wire.specs.Frame.{frame_fault, frame_head}
-use Rattle.frame_state.specs.declared.StateRead.{StateRead}
+use Rattle.std.specs.Prelude.{Result, Ok, Err}
+use Rattle.wire.specs.declared.FrameError.{FrameError}
+use Rattle.wire.specs.Frame.{check_frame, frame_head}
+use Rattle.wire.proofs.Read.{accepted, behind_head}
+use Rattle.instants.specs.Retimed.{Stamps, telemetry_at as telemetry_on64}
 use Rattle.frame_state.specs.StateFrame.{state_frame, Typed}
 use Rattle.frame_state.proofs.Size.{size}
 use Rattle.frame_state.proofs.Trips.{value_back as base_value_back}
-use Rattle.frame_telemetry.specs.declared.TelemetryRead.{TelemetryRead}
+use Rattle.types.specs.declared.Telemetry.{Telemetry}
 use Rattle.frame_telemetry.specs.TelemetryFrame.{telemetry_at, telemetry_valid, read_telemetry}
 use Rattle.frame_wide.specs.WideTelemetry.{telemetry_on, wide_stamps, with_stamps, read_wide_telemetry}
 use Rattle.frame_wide_trips.specs.Claim.{TypedWide}
@@ -43,7 +44,7 @@ pub state_size_lem : (form : Form) (x : Supervisor) → length (state_frame_of f
 state_size_lem (base keeps) x = size keeps x
 state_size_lem wide x = state_laws.size x
 
-pub value_back : (form : Form) (x : Supervisor) → TypedOf form x → Rules x → FitsOf form x → read_state_of form (state_frame_of form x) ≡ StateRead.Frame x
+pub value_back : (form : Form) (x : Supervisor) → TypedOf form x → Rules x → FitsOf form x → read_state_of form (state_frame_of form x) ≡ Ok x
 value_back (base keeps) x = base_value_back keeps x
 value_back wide x = state_laws.value_back x
 
@@ -58,28 +59,22 @@ due (base true) cfg x h = rw h refl
 due (base false) cfg x h = rw (h, base_kind x) refl
 due wide cfg x h = rw (h, state_laws.kind x) refl
 
--- ---- telemetry that is not refused is read
+-- ---- telemetry that is read is that of its fields
 
-base_in : (s : List ℕ) → ((n : ℕ) → read_telemetry s ≡ TelemetryRead.Refused n → n ≡ 0) → read_telemetry s ≡ TelemetryRead.Frame (telemetry_at s)
+wide_in : (j : Stamps) (r : Result Telemetry FrameError) (u t : Telemetry) → ((v : Telemetry) → r ≡ Ok v → u ≡ v) → with_stamps j r ≡ Ok t → telemetry_on64 j u ≡ t
+wide_in j (Ok v) u t is e = ap (telemetry_on64 j) (is v refl) ∙ cc
+wide_in j (Err d) u t is e = cc
+
+base_in : (s : List ℕ) (t : Telemetry) → read_telemetry s ≡ Ok t → telemetry_at s ≡ t
 unfolding read_telemetry
-base_in s h = at (eqb (frame_fault 3 104 s) 0) (telemetry_valid s) refl h
-  where
-    at : (a b : Bool) → eqb (frame_fault 3 104 s) 0 ≡ a → ((n : ℕ) → cond a (cond b (TelemetryRead.Frame (telemetry_at s)) (TelemetryRead.Refused 4)) (TelemetryRead.Refused (frame_fault 3 104 s)) ≡ TelemetryRead.Refused n → n ≡ 0) → cond a (cond b (TelemetryRead.Frame (telemetry_at s)) (TelemetryRead.Refused 4)) (TelemetryRead.Refused (frame_fault 3 104 s)) ≡ TelemetryRead.Frame (telemetry_at s)
-    at true true e h = refl
-    at true false e h = absurd (eqb-false 4 0 refl (h 4 refl))
-    at false b e h = absurd (eqb-false (frame_fault 3 104 s) 0 e (h (frame_fault 3 104 s) refl))
+base_in s t e = (accepted (check_frame 3 104 s) (telemetry_valid s) (telemetry_at s) t e).1.1
 
-wide_in : (s : List ℕ) → ((n : ℕ) → read_wide_telemetry s ≡ TelemetryRead.Refused n → n ≡ 0) → read_wide_telemetry s ≡ TelemetryRead.Frame (telemetry_in wide s)
+pub telemetry_in_lem : (form : Form) (s : List ℕ) (t : Telemetry) → read_telemetry_of form s ≡ Ok t → telemetry_in form s ≡ t
 unfolding read_wide_telemetry
-wide_in s h = at (eqb (frame_fault 9 148 s) 0) refl h
-  where
-    at : (a : Bool) → eqb (frame_fault 9 148 s) 0 ≡ a → ((n : ℕ) → cond a (with_stamps (wide_stamps s) (read_telemetry (telemetry_on (replicate 11 0) s))) (TelemetryRead.Refused (frame_fault 9 148 s)) ≡ TelemetryRead.Refused n → n ≡ 0) → cond a (with_stamps (wide_stamps s) (read_telemetry (telemetry_on (replicate 11 0) s))) (TelemetryRead.Refused (frame_fault 9 148 s)) ≡ TelemetryRead.Frame (telemetry_in wide s)
-    at true e h = ap (with_stamps (wide_stamps s)) (base_in (telemetry_on (replicate 11 0) s) (λ n k. h n (ap (with_stamps (wide_stamps s)) k)))
-    at false e h = absurd (eqb-false (frame_fault 9 148 s) 0 e (h (frame_fault 9 148 s) refl))
-
-pub telemetry_in_lem : (form : Form) (s : List ℕ) → ((n : ℕ) → read_telemetry_of form s ≡ TelemetryRead.Refused n → n ≡ 0) → read_telemetry_of form s ≡ TelemetryRead.Frame (telemetry_in form s)
-telemetry_in_lem (base keeps) s h = base_in s h
-telemetry_in_lem wide s h = wide_in s h
+telemetry_in_lem (base keeps) s t e = base_in s t e
+telemetry_in_lem wide s t e =
+    let marked = telemetry_on (replicate 11 0) s in
+    wide_in (wide_stamps s) (read_telemetry marked) (telemetry_at marked) t (base_in marked) (behind_head (check_frame 9 148 s) _ t e).1
 
 -- ---- a fresh state, and a step
 

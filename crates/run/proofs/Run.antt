@@ -1,8 +1,8 @@
 -- Demand 3 for every list of calls of the step entry, by the ladder's claim for every list of steps: the state image after the calls is the state after the steps,
 -- and the record read off the bytes is the record of those steps. Assumes nothing.
 use Rattle.types.specs.declared.UnknownNumber.{UnknownNumber}
-use Rattle.std.specs.Result.{result_unwrap_or}
-use Rattle.std.specs.Prelude.{Result}
+use Rattle.std.specs.Result.{result_unwrap_or, result_map_both}
+use Rattle.std.specs.Prelude.{Result, Ok, Err, ⊤}
 use Prim.Native.Nat.{ℕ, ◌≤◌}
 use mathlib.Core.Bool.{Bool, true, false, cond}
 use mathlib.Core.List.{List, [], ◌∷◌, ◌++◌}
@@ -12,7 +12,7 @@ use lib.Dec.{eqb, ltb}
 use lib.ListN.{length, take, drop}
 use lib.Seq.{take-append-le, take-length}
 use native.Mathlib.Omega.{arith}
-use borrow.Author.Tests.{eqb-true, eqb-false, eq-eqb, le-ltb}
+use borrow.Author.Tests.{eqb-true, eqb-false, le-ltb}
 use Rattle.types.specs.declared.Decision.{Decision}
 use Rattle.types.proofs.Slots.{action_of_rank_lem}
 use Rattle.geometry.specs.Distance.{ring_of, side_lengths}
@@ -23,21 +23,29 @@ use Rattle.supervisor.specs.declared.Stepped.{Stepped}
 use Rattle.supervisor.specs.Settings.{Site, Fed, fence_site, fence_site_by, with_areas, fed_at}
 use Rattle.supervisor.specs.Step.{fresh_supervisor, step}
 use Rattle.supervisor.specs.Rules.{Rules}
-use Rattle.supervisor.proofs.Rules.{either, fresh_rules, step_rules}
+use Rattle.supervisor.proofs.Rules.{fresh_rules, step_rules}
 use Rattle.wire.specs.Fields.{Bytes, u8_at, le_bytes, le8, le16}
-use Rattle.wire.specs.Frame.{frame_head, room_fault, frame_written}
+use Rattle.wire.specs.Frame.{frame_head, frame_written, check_room}
 use Rattle.options.specs.Enums.{action_at, le_action}
-use Rattle.frame_config.specs.declared.ConfigRead.{ConfigRead}
 use Rattle.frame_config.specs.ConfigFrame.{read_config}
-use Rattle.frame_fence.specs.FenceFrame.{read_fence}
-use Rattle.frame_state.specs.declared.StateRead.{StateRead}
-use Rattle.frame_telemetry.specs.declared.TelemetryRead.{TelemetryRead}
+use Rattle.frame_fence.specs.declared.FenceRead.{FenceRead}
+use Rattle.frame_fence.specs.FenceFrame.{read_fence, fence_of}
+use Rattle.corners.specs.declared.FenceError.{FenceError}
+use Rattle.geometry.specs.declared.Geofence.{Geofence}
+use Rattle.config.specs.declared.ConfigError.{ConfigError}
+use Rattle.config.specs.Config.{validate_config}
+use Rattle.types.specs.declared.Telemetry.{Telemetry}
+use Rattle.wire.specs.declared.FrameError.{FrameError}
+use Rattle.wire.proofs.Head.{no_error_zero}
+use Rattle.calls.proofs.Accepted.{accepted}
 use Rattle.frame_decision.specs.DecisionFrame.{decision_frame}
 use Rattle.frame_side.specs.SideFrame.{side_frame}
 use Rattle.flight.specs.declared.Flight.{Flight}
-use Rattle.flight.specs.Flight.{accept_flight, refused_flight, after_config, read_flight}
+use Rattle.flight.specs.declared.FlightError.{FlightError}
+use Rattle.flight.specs.Flight.{settings_checked, accept_flight, blank_flight, flight_or_blank, after_fence, after_config, read_flight}
+use Rattle.flight.specs.Flight.{flight_of as flown_of}
 use Rattle.calls.specs.Form.{Form, clock_of, state_size, read_state_of, state_frame_of, read_telemetry_of, telemetry_in, settings_of, form_of}
-use Rattle.calls.specs.Entry.{flight_keeps, StepCall, declined, output_frame, output_size, succeeded, written, step_of, after_telemetry, after_state, from_state, refused_first, after_flight, step_any, fresh_call}
+use Rattle.calls.specs.Entry.{flight_keeps, StepCall, declined, output_frame, output_size, succeeded, written, step_of, after_telemetry, after_state, from_state, after_flight, step_any, fresh_call}
 use Rattle.calls.proofs.Declined.{declined_keeps}
 use Rattle.ladder.specs.Record.{Line, state_after, record_of, steps_of}
 use Rattle.ladder.specs.Claim.{ObeysAll}
@@ -48,29 +56,42 @@ use Rattle.types.specs.declared.Action.{Action}
 
 -- ---- an accepted flight steps with the fence's own distance
 
-flight_lengths : (config fence : List ℕ) → (read_flight config fence).lengths ≡ side_lengths (ring_of (read_flight config fence).fence.poly)
-unfolding read_flight accept_flight refused_flight
+own_lengths : (cfg : Config) (r : Result Geofence FenceError) → (flight_or_blank (settings_checked cfg r)).lengths ≡ side_lengths (ring_of (flight_or_blank (settings_checked cfg r)).fence.poly)
+unfolding blank_flight
+own_lengths cfg (Err e) = refl
+own_lengths cfg (Ok fence) = at (validate_config cfg fence)
+  where
+    at : (v : Result ⊤ ConfigError) → (flight_or_blank (result_map_both (λ _. flown_of cfg fence) FlightError.Config v)).lengths ≡ side_lengths (ring_of (flight_or_blank (result_map_both (λ _. flown_of cfg fence) FlightError.Config v)).fence.poly)
+    at (Ok tt) = refl
+    at (Err e) = refl
+
+flight_lengths : (config fence : List ℕ) → (flight_or_blank (read_flight config fence)).lengths ≡ side_lengths (ring_of (flight_or_blank (read_flight config fence)).fence.poly)
+unfolding read_flight accept_flight blank_flight
 flight_lengths config fence = at (read_config config)
   where
-    at : (r : ConfigRead) → (after_config r fence).lengths ≡ side_lengths (ring_of (after_config r fence).fence.poly)
-    at (ConfigRead.Refused n) = refl
-    at (ConfigRead.Frame cfg) =
-        let read = read_fence fence in
-        either
-        (λ b. (cond b (accept_flight cfg read) (refused_flight read.refused)).lengths ≡ side_lengths (ring_of (cond b (accept_flight cfg read) (refused_flight read.refused)).fence.poly))
-        refl refl (eqb read.refused 0)
+    fenced : (cfg : Config) (q : Result FenceRead FrameError) → (flight_or_blank (after_fence cfg q)).lengths ≡ side_lengths (ring_of (flight_or_blank (after_fence cfg q)).fence.poly)
+    fenced cfg (Err e) = refl
+    fenced cfg (Ok read) = own_lengths cfg (fence_of read)
 
-flight_site : (config fence : List ℕ) → fence_site_by (read_flight config fence).fence (read_flight config fence).lengths ≡ fence_site (read_flight config fence).fence
+    at : (r : Result Config FrameError) → (flight_or_blank (after_config r fence)).lengths ≡ side_lengths (ring_of (flight_or_blank (after_config r fence)).fence.poly)
+    at (Err e) = refl
+    at (Ok cfg) = fenced cfg (read_fence fence)
+
+flight_site : (config fence : List ℕ) → let f = flight_or_blank (read_flight config fence) in fence_site_by f.fence f.lengths ≡ fence_site f.fence
 flight_site config fence =
-    let g = (read_flight config fence).fence in
+    let g = (flight_or_blank (read_flight config fence)).fence in
     let l = ring_of g.poly in
     ap (fence_site_by g) (flight_lengths config fence)
     ∙ (λ i. record { near = λ p. by_side_lengths l p i; min_alt = g.min_alt_m; max_alt = g.max_alt_m })
 
 -- ---- telemetry that is not refused is read, and an output that is not refused has room
 
-telemetry_read_lem : (with_side : Bool) (form : Form) (f : Flight) (areas : List ℕ) (x : Supervisor) (s state output : List ℕ) → (after_telemetry with_side form (read_telemetry_of form s) f areas x state output).number ≡ 0 → read_telemetry_of form s ≡ TelemetryRead.Frame (telemetry_in form s)
-telemetry_read_lem with_side form f areas x s state output h = telemetry_in_lem form s (λ (n : ℕ) (e : read_telemetry_of form s ≡ TelemetryRead.Refused n). sym (ap (λ (q : TelemetryRead). (after_telemetry with_side form q f areas x state output).number) e) ∙ h)
+pub telemetry_read_lem : (with_side : Bool) (form : Form) (f : Flight) (areas : List ℕ) (x : Supervisor) (s state output : List ℕ) → (after_telemetry with_side form (read_telemetry_of form s) f areas x state output).number ≡ 0 → read_telemetry_of form s ≡ Ok (telemetry_in form s)
+telemetry_read_lem with_side form f areas x s state output h = at (read_telemetry_of form s) refl h
+  where
+    at : (r : Result Telemetry FrameError) → read_telemetry_of form s ≡ r → (after_telemetry with_side form r f areas x state output).number ≡ 0 → read_telemetry_of form s ≡ Ok (telemetry_in form s)
+    at (Ok t) e h = e ∙ ap Ok (sym (telemetry_in_lem form s t e))
+    at (Err d) e h = absurd (no_error_zero d h)
 
 roomy : (with_side : Bool) (form : Form) (next : Stepped) (state output : List ℕ) → (written with_side form next state output).number ≡ 0 → written with_side form next state output ≡ succeeded with_side form next output
 roomy with_side form next state output z = at (ltb (length output) (output_size with_side)) z
@@ -89,7 +110,7 @@ action_shown_lem true d side rest = ap (λ (r : Result Action UnknownNumber). re
 -- ---- a run begins with a fresh state
 
 begins : (form : Form) (slice : List ℕ) → state_size form ≤ length slice → ((fresh_call form slice).number ≡ 0) × (take (state_size form) (fresh_call form slice).state ≡ state_frame_of form fresh_supervisor)
-unfolding fresh_call room_fault frame_written
+unfolding fresh_call check_room frame_written
 begins form slice h =
     let f = state_frame_of form fresh_supervisor in
     let s = state_size_lem form fresh_supervisor in
@@ -98,17 +119,8 @@ begins form slice h =
 
 -- ---- a call that steps
 
--- it has an accepted flight, and accepted areas
-accepts : (c : Call) (state : List ℕ) → (on c state).number ≡ 0 → refused_first (flight_of c) c.areas ≡ 0
-unfolding step_any
-accepts c state z = at (eqb (refused_first (flight_of c) c.areas) 0) refl z
-  where
-    at : (b : Bool) → eqb (refused_first (flight_of c) c.areas) 0 ≡ b → (cond b (from_state c.with_side (form_of (flight_keeps (flight_of c)) state) (flight_of c) c.areas state c.telemetry c.output) (declined (refused_first (flight_of c) c.areas) state c.output)).number ≡ 0 → refused_first (flight_of c) c.areas ≡ 0
-    at true e z = eqb-true _ _ e
-    at false e z = z
-
 -- from a state image that is a state's, in the form that is due
-pub stepped : (form : Form) (c : Call) (x : Supervisor) (state : List ℕ) → form_of (flight_keeps (flight_of c)) state ≡ form → read_state_of form state ≡ StateRead.Frame x → (on c state).number ≡ 0 → on c state ≡ succeeded c.with_side form (step (settings_of form (flight_of c).cfg) x (fed_by form c)) c.output
+pub stepped : (form : Form) (c : Call) (x : Supervisor) (state : List ℕ) → form_of (flight_keeps (flight_of c)) state ≡ form → read_state_of form state ≡ Ok x → (on c state).number ≡ 0 → on c state ≡ succeeded c.with_side form (step (settings_of form (flight_of c).cfg) x (fed_by form c)) c.output
 unfolding step_any
 stepped form c x state is r z =
     let w = c.with_side in
@@ -117,11 +129,14 @@ stepped form c x state is r z =
     let f = flight_of c in
     let areas = c.areas in
     let next = step_of form f areas x (telemetry_in form telemetry) in
-    let a : after_flight w f areas state telemetry output ≡ after_telemetry w form (read_telemetry_of form telemetry) f areas x state output =
-    rw (eq-eqb _ _ (accepts c state z)) (ap (λ (g : Form). from_state w g f areas state telemetry output) is ∙ ap (λ (q : StateRead). after_state w form q f areas state telemetry output) r)
+    let read = read_flight c.config c.fence in
+    let a : after_flight w read areas state telemetry output ≡ after_telemetry w form (read_telemetry_of form telemetry) f areas x state output =
+    (accepted w areas state telemetry output read z).call
+    ∙ ap (λ (g : Form). from_state w g f areas state telemetry output) is
+    ∙ ap (λ (q : Result Supervisor FrameError). after_state w form q f areas state telemetry output) r
     in
     let b = telemetry_read_lem w form f areas x telemetry state output (sym (ap (λ (q : StepCall). q.number) a) ∙ z) in
-    let e : after_flight w f areas state telemetry output ≡ written w form next state output = a ∙ ap (λ (q : TelemetryRead). after_telemetry w form q f areas x state output) b in
+    let e : after_flight w read areas state telemetry output ≡ written w form next state output = a ∙ ap (λ (q : Result Telemetry FrameError). after_telemetry w form q f areas x state output) b in
     e
     ∙ roomy w form next state output (sym (ap (λ (q : StepCall). q.number) e) ∙ z)
     ∙ ap (λ (site : Site). succeeded w form (step (settings_of form f.cfg) x (fed_at (with_areas areas site) (telemetry_in form telemetry))) output) (flight_site c.config c.fence)
@@ -139,7 +154,7 @@ module _ (form : Form) (cfg : Config) (beside : Beside form cfg) (slice : List �
     record_is : lines ≡ record_of (settings_of form cfg) fs
 
   -- what a call that steps under this configuration leaves: the next state's image, and the Decision's action in the output
-  leaves : (x : Supervisor) (c : Call) (state : List ℕ) → (flight_of c).cfg ≡ cfg → state ≡ state_frame_of form x → read_state_of form state ≡ StateRead.Frame x → (on c state).number ≡ 0 → ((on c state).state ≡ state_frame_of form (step (settings_of form cfg) x (fed_by form c)).supervisor) × (shown_action (on c state).output ≡ (step (settings_of form cfg) x (fed_by form c)).decision.action)
+  leaves : (x : Supervisor) (c : Call) (state : List ℕ) → (flight_of c).cfg ≡ cfg → state ≡ state_frame_of form x → read_state_of form state ≡ Ok x → (on c state).number ≡ 0 → ((on c state).state ≡ state_frame_of form (step (settings_of form cfg) x (fed_by form c)).supervisor) × (shown_action (on c state).output ≡ (step (settings_of form cfg) x (fed_by form c)).decision.action)
   leaves x c state same image r z =
       let form_is = ap (λ (k : Config). form_of k.keeps_raised state) same ∙ ap (form_of cfg.keeps_raised) image ∙ due form cfg x beside in
       let is = stepped form c x state form_is r z in
@@ -195,7 +210,6 @@ weaker form slice P Q h (c ∷ earlier) u = (u.0, (⊎_elim (λ (n : (answered f
 
 -- its case of one accepted configuration and fence
 pub one_flight_claim : OneFlightClaim
-one_flight_claim config fence ok form beside slice room calls u =
-    let g = read_flight config fence in
+one_flight_claim config fence g ok form beside slice room calls u =
     run_claim form g.cfg beside slice room calls
     (weaker form slice (SameFlight g) (λ (f : Flight). f.cfg ≡ g.cfg) (λ f s. s.0) calls u)

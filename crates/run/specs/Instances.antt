@@ -1,5 +1,5 @@
 -- A run on bytes that meets the premises of the claim, and its record; and calls with several faults. Lists have the latest call first. Assumes nothing.
-use Rattle.std.specs.Prelude.{ℕ, ◌≤◌, Bool, true, false, List, [], ◌∷◌, ◌++◌, ◌≡◌, length, set, take, replicate, Some, None}
+use Rattle.std.specs.Prelude.{ℕ, ◌≤◌, Bool, true, false, List, [], ◌∷◌, ◌++◌, ◌≡◌, length, set, take, replicate, Some, None, Ok}
 use Rattle.std.specs.Float.Ieee.{neg}
 use Rattle.types.specs.declared.Action.{Action}
 use Rattle.types.specs.declared.GpsFix.{GpsFix}
@@ -14,7 +14,8 @@ use Rattle.frame_areas.specs.AreasFrame.{areas_frame}
 use Rattle.frame_telemetry.specs.TelemetryFrame.{telemetry_frame}
 use Rattle.ladder.specs.Record.{Line}
 use Rattle.supervisor.specs.Settings.{Site, fence_site, with_areas, fed_at}
-use Rattle.flight.specs.Flight.{read_flight}
+use Rattle.flight.specs.declared.Flight.{Flight}
+use Rattle.flight.specs.Flight.{flight_or_blank, read_flight}
 use Rattle.calls.specs.Form.{Form, base, state_size}
 use Rattle.calls.specs.Entry.{flight_keeps, step_any, fresh_call}
 use Rattle.run.specs.Run.{Call, Under, record_of_calls, SameFlight, RunObeys}
@@ -104,12 +105,16 @@ calls =
     step_on (in_flight 0 false) ∷
     []
 
+-- the flight that both frames hold
+abbrev pub flown : Flight
+flown = flight_or_blank (read_flight config fence)
+
 -- the configuration is of kind 1, the state of kind 5
 abbrev pub form : Form
-form = base (flight_keeps (read_flight config fence))
+form = base (flight_keeps flown)
 
 abbrev pub site : Site
-site = fence_site (read_flight config fence).fence
+site = fence_site flown.fence
 
 abbrev pub line : Telemetry → Action → Line
 line t a = record { fed = fed_at site t; action = a }
@@ -120,8 +125,8 @@ line_with_crane t a = record { fed = fed_at (with_areas crane site) t; action = 
 pub record RunInstance : Type 0 where
   -- the premises of the claim
   pub room : state_size form ≤ length slice
-  pub accepted : (read_flight config fence).refused ≡ 0
-  pub under : Under form slice (SameFlight (read_flight config fence)) calls
+  pub accepted : read_flight config fence ≡ Ok flown
+  pub under : Under form slice (SameFlight flown) calls
   -- seven steps: the pilot's link is lost at 0 and back from 1000, so Nominal is wanted from then on and shown 5000 ms later; at 6050 a crane is up, for
   -- that step alone, and the warning stays at 6060; at 6100 all readings are lost
   pub record_is :
@@ -135,7 +140,7 @@ pub record RunInstance : Type 0 where
       ∷ line (in_flight 0 false) Action.ReturnToLaunch
       ∷ []
   -- so the claim holds of it
-  pub obeys : RunObeys form slice (read_flight config fence).cfg calls
+  pub obeys : RunObeys form slice flown.cfg calls
 
 -- ---- "Across: configuration frame, fence frame, fence rules, configuration rules, state, telemetry, output"
 

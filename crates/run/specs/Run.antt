@@ -1,13 +1,12 @@
 -- Document 01, 'Run and record', about the bytes that the C host hands over. Lists have the latest call first. Assumes nothing.
-use Rattle.std.specs.Prelude.{ℕ, ◌≤◌, Bool, false, cond, List, [], ◌∷◌, ◌⊎◌, ◌≡◌, eqb, length, take}
+use Rattle.std.specs.Prelude.{ℕ, ◌≤◌, Bool, false, cond, List, [], ◌∷◌, ◌⊎◌, ◌≡◌, eqb, length, take, Ok}
 use Rattle.types.specs.declared.Action.{Action}
 use Rattle.config.specs.declared.Config.{Config}
 use Rattle.supervisor.specs.Settings.{Fed, fence_site, with_areas, fed_at}
 use Rattle.wire.specs.Fields.{Bytes}
 use Rattle.options.specs.Enums.{action_at}
-use Rattle.frame_state.specs.declared.StateRead.{StateRead}
 use Rattle.flight.specs.declared.Flight.{Flight}
-use Rattle.flight.specs.Flight.{read_flight}
+use Rattle.flight.specs.Flight.{flight_or_blank, read_flight}
 use Rattle.calls.specs.Form.{Form, base, wide, clock_of, state_size, read_state_of, telemetry_in, settings_of}
 use Rattle.calls.specs.Entry.{StepCall, step_any, fresh_call}
 use Rattle.ladder.specs.Record.{Line, state_after, steps_of}
@@ -30,9 +29,9 @@ on c state = step_any c.with_side c.config c.fence state c.telemetry c.output c.
 abbrev pub shown_action : List ℕ → Action
 shown_action output = action_at output 4
 
--- the configuration and fence that a call reads
+-- the configuration and fence that a call reads; where they are refused the call is no step, whatever stands here
 abbrev pub flight_of : Call → Flight
-flight_of c = read_flight c.config c.fence
+flight_of c = flight_or_blank (read_flight c.config c.fence)
 
 -- "all it was fed but the state": its telemetry, its own fence and its own keep-out areas
 abbrev pub fed_by : Form → Call → Fed
@@ -87,7 +86,7 @@ pub record RunObeys (form : Form) (slice : List ℕ) (cfg : Config) (calls : Lis
   -- demand 3, read off the record alone
   pub ladder : ObeysAll (clock_of form) cfg.recovery_hold_ms (steps_of (settings_of form cfg) (record_of_calls form slice calls))
   -- the state image is always accepted again: no run is declined for its own state
-  pub accepted : read_state_of form (state_bytes form slice calls) ≡ StateRead.Frame (state_after (settings_of form cfg) (fed form slice calls))
+  pub accepted : read_state_of form (state_bytes form slice calls) ≡ Ok (state_after (settings_of form cfg) (fed form slice calls))
 
 -- "for every list": every form, every configuration that it goes with, every state slice of at least a frame's bytes, every list of calls, each with its own
 -- fence and areas, declined ones with any bytes among them
@@ -104,8 +103,8 @@ SameFlight g f = (f.cfg ≡ g.cfg) × (f.fence ≡ g.fence)
 -- document 01's claim: the case of one fence
 abbrev pub OneFlightClaim : Type 0
 OneFlightClaim =
-    (config fence : List ℕ) → (read_flight config fence).refused ≡ 0
-    → (form : Form) → Beside form (read_flight config fence).cfg
+    (config fence : List ℕ) (g : Flight) → read_flight config fence ≡ Ok g
+    → (form : Form) → Beside form g.cfg
     → (slice : List ℕ) → state_size form ≤ length slice
-    → (calls : List Call) → Under form slice (SameFlight (read_flight config fence)) calls
-    → RunObeys form slice (read_flight config fence).cfg calls
+    → (calls : List Call) → Under form slice (SameFlight g) calls
+    → RunObeys form slice g.cfg calls

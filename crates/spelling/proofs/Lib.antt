@@ -1,2 +1,3 @@
 -- The theorems on one spelling.
+pub mod Verdict
 pub mod Claims

@@ -1,15 +1,18 @@
 -- What is claimed of one spelling, on the bytes of frames. Numbers are compared as numbers: −0 is 0. Assumes nothing.
-use Rattle.std.specs.Prelude.{ℕ, ◌+◌, ◌*◌, ◌≡◌, true, List, take, Ok}
+use Rattle.std.specs.Prelude.{ℕ, ◌+◌, ◌*◌, ◌≡◌, true, List, [], take, Result, Ok, Err}
+use Rattle.std.specs.Result.{IsOk, IsOkAnd}
 use Rattle.std.specs.Float.Ieee.{eq}
 use Rattle.wire.specs.Fields.{Bytes, u8_at, f32_at}
 use Rattle.rings.specs.Corner.{SameFence}
-use Rattle.frame_fence.specs.FenceFrame.{corners_sent, read_fence, fence_of}
-use Rattle.spelling.specs.Spell.{head_fault, in_form, frame_of, spell_number, spell_output}
+use Rattle.wire.specs.declared.FrameError.{FrameError}
+use Rattle.frame_fence.specs.declared.FenceRead.{FenceRead}
+use Rattle.frame_fence.specs.FenceFrame.{corners_sent, read_fence, fence_of, frame_of}
+use Rattle.spelling.specs.Spell.{check_head, in_form, spell_number, spell_output}
 
 -- "an accepted kind 8 fence"
 pub record Accepted (s : List ℕ) : Type 0 where
-  pub head : head_fault s ≡ 0
-  pub rules : (fence_of (read_fence s)).result ≡ Ok tt
+  pub head : check_head s ≡ Ok tt
+  pub rules : IsOkAnd (read_fence s) (λ r. IsOk (fence_of r))
 
 -- "the same altitudes and ring of corners, in any rotation or direction"
 pub record Same (s t : List ℕ) : Type 0 where
@@ -17,9 +20,13 @@ pub record Same (s t : List ℕ) : Type 0 where
   pub high : eq (f32_at s 9) (f32_at t 9) ≡ true
   pub ring : SameFence (corners_sent s) (corners_sent t)
 
--- the frame in the one form, written or turned away by 39
+-- the frame of what was read in the one form, written or turned away by 39; no byte where nothing was read
+abbrev pub form_frame : Result FenceRead FrameError → List ℕ
+form_frame (Ok r) = frame_of (in_form r)
+form_frame (Err e) = []
+
 abbrev pub form_of : List ℕ → List ℕ
-form_of s = frame_of (in_form (read_fence s))
+form_of s = form_frame (read_fence s)
 
 -- "Two accepted fences with the same altitudes and ring of corners … write equal bytes into long enough outputs or are both turned away by 39": for every
 -- output the same number, and the same bytes in it

@@ -1,4 +1,5 @@
 -- As many turns as the input has bytes are enough: after them no frame is left that would be answered. Assumes nothing.
+use Rattle.wire.proofs.Head.{room}
 use Prim.Native.Nat.{ℕ, zero, suc, ◌+◌, ◌≤◌}
 use native.Mathlib.Omega.{arith}
 use mathlib.Core.Bool.{Bool, true, false, cond}

@@ -1,4 +1,8 @@
 -- The laws of the frames of kinds 3 and 13 that are answered one after the other. Assumes nothing.
+use Rattle.types.specs.declared.Telemetry.{Telemetry}
+use Rattle.wire.proofs.Head.{room}
+use Rattle.wire.specs.declared.FrameError.{FrameError}
+use Rattle.std.specs.Prelude.{Result, Ok, Err}
 use Prim.Native.Nat.{ℕ, zero, suc, ◌+◌, ◌-◌, ◌≤◌, ◌<◌, zero-le, min}
 use native.Mathlib.Nat.{min-eq_left, min-eq_right, le_of_lt}
 use native.Mathlib.Omega.{arith}
@@ -11,8 +15,7 @@ use lib.Seq.{length-take-le, take_all, take_at, drop_at, drop-drop, drop-length}
 use borrow.Author.Tests.{ltb-true, ltb-false, le-ltb, eqb-true, eq-eqb, ne_eqb}
 use borrow.Rule.Slice.PartMut.{mid_of, put_mid}
 use Rattle.supervisor.specs.declared.Supervisor.{Supervisor}
-use Rattle.wire.specs.Frame.{whole_frame, frame_written}
-use Rattle.frame_telemetry.specs.declared.TelemetryRead.{TelemetryRead}
+use Rattle.wire.specs.Frame.{whole_frame, frame_written, frame_error_number}
 use Rattle.frame_telemetry.specs.TelemetryFrame.{read_telemetry}
 use Rattle.frame_areas.specs.AreasFrame.{areas_fault}
 use Rattle.frame_areas.proofs.Most.{areas_most}
@@ -84,9 +87,9 @@ room_next p input out held n h e z =
 abbrev Sized : Flown → Type 0
 Sized a = (length a.bytes ≤ 95) × (length a.areas ≤ 1045)
 
-sized_telemetry : (read : TelemetryRead) (f : Flight) (s : Supervisor) (areas : List ℕ) → length areas ≤ 1045 → Sized (after_telemetry read f s areas)
-sized_telemetry (TelemetryRead.Refused n) f s areas h = (omega (arith, refusal_size n), h)
-sized_telemetry (TelemetryRead.Frame t) f s areas h = (omega (arith, decision_size (step_flight f areas s t).decision), h)
+sized_telemetry : (read : Result Telemetry FrameError) (f : Flight) (s : Supervisor) (areas : List ℕ) → length areas ≤ 1045 → Sized (after_telemetry read f s areas)
+sized_telemetry (Err d) f s areas h = (omega (arith, refusal_size (frame_error_number d)), h)
+sized_telemetry (Ok t) f s areas h = (omega (arith, decision_size (step_flight f areas s t).decision), h)
 
 sized_areas : (s : Supervisor) (areas frame : List ℕ) → length areas ≤ 1045 → Sized (after_areas s areas frame)
 unfolding after_areas
@@ -106,14 +109,10 @@ sized f due s areas frame h = by (takes_areas due frame)
     by false = sized_telemetry (read_telemetry frame) f s areas h
 
 -- a step keeps the areas that are held
-pub kept : (read : TelemetryRead) (f : Flight) (s : Supervisor) (areas : ℕ) (held out : List ℕ) (a : FrameAnswer) → areas ≤ 1045 → 1045 ≤ length held
+pub kept : (read : Result Telemetry FrameError) (f : Flight) (s : Supervisor) (areas : ℕ) (held out : List ℕ) (a : FrameAnswer) → areas ≤ 1045 → 1045 ≤ length held
     → a ≡ frame_answer (after_telemetry read f s (take areas held)) out → take a.areas held ≡ (after_telemetry read f s (take areas held)).areas
-kept (TelemetryRead.Refused n) f s areas held out a h k e = let within : areas ≤ length held = omega arith in rw (e, length-take-le areas held within)
-kept (TelemetryRead.Frame t) f s areas held out a h k e = let within : areas ≤ length held = omega arith in rw (e, length-take-le areas held within)
-
--- a frame that was copied to the front of a slice
-pub copied : (frame held after : List ℕ) → after ≡ take (length frame) frame ++ drop (length frame) held → take (length frame) after ≡ frame
-copied frame held after e = rw (e, take_all (length frame) frame (omega arith), take_at frame (drop (length frame) held) (length frame) refl)
+kept (Err d) f s areas held out a h k e = let within : areas ≤ length held = omega arith in rw (e, length-take-le areas held within)
+kept (Ok t) f s areas held out a h k e = let within : areas ≤ length held = omega arith in rw (e, length-take-le areas held within)
 
 -- bytes that are put into the part of a slice from a place on, where there is room
 module _ (out bytes : List ℕ) (put : ℕ) (fits : put + length bytes ≤ length out) where
@@ -139,7 +138,7 @@ module _ (out bytes : List ℕ) (put : ℕ) (fits : put + length bytes ≤ lengt
 
 -- what the code has at the end, from how far it is
 pub ends : (p : FramesAnswer) (out held out₀ : List ℕ) (q : Progress) {size : ℕ}
-    → progress p out held ≡ q → p.put ≤ length out → length out ≡ length out₀ → drop p.put out ≡ drop p.put out₀ → p.areas ≤ 1045 → 1045 ≤ length held → p.taken ≤ size
+    → progress p out held ≡ q → p.put ≤ length out → length out ≡ length out₀ → drop p.put out ≡ drop p.put out₀ → p.areas ≤ 1045 → length held ≡ 1045 → p.taken ≤ size
     → (p ≡ frames_answer q) × ((out ≡ frame_written q.written out₀) × ((take p.areas held ≡ q.areas) × ((p.taken ≤ size) × (p.put ≤ length out₀))))
 unfolding frame_written
 ends p out held out₀ q e h l d a k t =
@@ -179,23 +178,29 @@ module _ (f : Flight) (p : FramesAnswer) (n : ℕ) (input out held : List ℕ) (
   put_all : a.put ≡ length (flown_of f p n input held).bytes
   put_all = ap (λ (x : FrameAnswer). x.put) e ∙ counted out (flown_of f p n input held).bytes p.put fits
 
-  pub step_put : p.put + a.put ≤ length out
+  step_put : p.put + a.put ≤ length out
   step_put = rw put_all fits
 
-  pub step_areas : a.areas ≤ 1045
+  step_areas : a.areas ≤ 1045
   step_areas = rw e both.1
 
-  pub step_left : drop (p.put + a.put) (put_mid p.put (length out - p.put) out part) ≡ drop (p.put + a.put) out
+  step_left : drop (p.put + a.put) (put_mid p.put (length out - p.put) out part) ≡ drop (p.put + a.put) out
   step_left = rw (put_all, q) (left_then out (flown_of f p n input held).bytes p.put fits)
 
   written_then : take (p.put + a.put) (put_mid p.put (length out - p.put) out part) ≡ take p.put out ++ (flown_of f p n input held).bytes
   written_then = rw (put_all, q) (taken_then out (flown_of f p n input held).bytes p.put fits)
 
-  pub step_progress : progress (record { due = a.due; supervisor = a.supervisor; areas = a.areas; taken = p.taken + n; put = p.put + a.put }) (put_mid p.put (length out - p.put) out part) after ≡ answer_next f input n (progress p out held)
+  step_progress : progress (record { due = a.due; supervisor = a.supervisor; areas = a.areas; taken = p.taken + n; put = p.put + a.put }) (put_mid p.put (length out - p.put) out part) after ≡ answer_next f input n (progress p out held)
   unfolding answer_next
   step_progress =
       let same : p.taken + n - p.taken ≡ n = omega arith in
       rw (written_then, k, e, same)
+
+  -- all of that
+  pub stepped :
+      (progress (record { due = a.due; supervisor = a.supervisor; areas = a.areas; taken = p.taken + n; put = p.put + a.put }) (put_mid p.put (length out - p.put) out part) after ≡ answer_next f input n (progress p out held))
+      × ((drop (p.put + a.put) (put_mid p.put (length out - p.put) out part) ≡ drop (p.put + a.put) out) × ((p.put + a.put ≤ length out) × (a.areas ≤ 1045)))
+  stepped = (step_progress, (step_left, (step_put, step_areas)))
 
 -- what two lists share from a place on, they share from a later place on
 pub drop-later : (i j : ℕ) (s t : List ℕ) → i ≤ j → drop i s ≡ drop i t → drop j s ≡ drop j t

@@ -1,4 +1,5 @@
 pub mod Areas
 pub mod Enough
 pub mod Frames
+pub mod Holding
 pub mod Room

@@ -1,30 +1,32 @@
--- How many bytes of a frame are put into a slice, from the number that the frame's writer answers. Assumes nothing.
+-- How many bytes of a frame are put into a slice, from what the frame's writer answers. Assumes nothing.
+use Rattle.wire.specs.declared.FrameError.{FrameError}
+use Rattle.std.specs.Result.{is_ok}
+use Rattle.std.specs.Prelude.{Result, Ok, Err, ⊤}
 use Prim.Native.Nat.{ℕ, zero-le}
-use native.Mathlib.Omega.{arith}
-use mathlib.Core.Bool.{Bool, true, false, cond}
+use mathlib.Core.Bool.{Bool, true, false, cond, true≢false}
 use mathlib.Core.List.{List, []}
-use mathlib.Core.Path.{◌≡◌, refl, sym}
+use mathlib.Core.Path.{◌≡◌, ap, refl, sym}
 use lib.Dec.{ltb}
 use lib.ListN.{length}
 use borrow.Author.Tests.{le-ltb}
-use Rattle.wire.specs.Frame.{room_fault, frame_written}
+use Rattle.wire.specs.Frame.{frame_written, check_room}
 use Rattle.stream.specs.Stream.{put_count}
 
-pub put_all : (f out : List ℕ) (k r : ℕ) → length f ≡ k → r ≡ room_fault f out → r ≡ 0 → k ≡ put_count f out
-unfolding room_fault put_count
-put_all f out k r size e z = at (ltb (length out) (length f)) e
+pub put_all : (f out : List ℕ) (k : ℕ) → length f ≡ k → Ok tt ≡ check_room f out → k ≡ put_count f out
+unfolding check_room put_count
+put_all f out k size e = by (ltb (length out) (length f)) e
   where
-    at : (b : Bool) → r ≡ cond b 5 0 → k ≡ cond b 0 (length f)
-    at true h = absurd (omega arith)
-    at false h = sym size
+    by : (b : Bool) → ◌≡◌ {A = Result ⊤ FrameError} (Ok tt) (cond b (Err FrameError.NoRoom) (Ok tt)) → k ≡ cond b 0 (length f)
+    by true h = absurd (true≢false (ap is_ok h))
+    by false h = sym size
 
-pub put_none : (f out : List ℕ) (r : ℕ) → r ≡ room_fault f out → (r ≡ 0 → ⊥) → 0 ≡ put_count f out
-unfolding room_fault put_count
-put_none f out r e n = at (ltb (length out) (length f)) e
+pub put_none : (f out : List ℕ) (d : FrameError) → Err d ≡ check_room f out → 0 ≡ put_count f out
+unfolding check_room put_count
+put_none f out d e = by (ltb (length out) (length f)) e
   where
-    at : (b : Bool) → r ≡ cond b 5 0 → 0 ≡ cond b 0 (length f)
-    at true h = refl
-    at false h = absurd (n h)
+    by : (b : Bool) → ◌≡◌ {A = Result ⊤ FrameError} (Err d) (cond b (Err FrameError.NoRoom) (Ok tt)) → 0 ≡ cond b 0 (length f)
+    by true h = refl
+    by false h = absurd (true≢false (sym (ap is_ok h)))
 
 pub put_nothing : (out : List ℕ) → 0 ≡ put_count [] out
 unfolding put_count

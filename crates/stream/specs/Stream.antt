@@ -2,26 +2,27 @@
 -- input ends at a frame boundary, even before the first frame, it ends and writes no more; at the first refusal it writes one kind 255 frame
 -- and ends." Document 02, L5: "Fences come as kind 8 too": `read_fence` takes either. Document 02, L3, of keep-out areas, kind 13: "`decide` takes at most
 -- one before each kind 3, checked when read, which holds until the next one; before the first no area is held." Assumes nothing.
-use Rattle.std.specs.Prelude.{ℕ, zero, suc, ◌+◌, ◌-◌, Bool, true, false, ◌||◌, cond, List, [], ◌++◌, eqb, ltb, length, take, drop}
+use Rattle.std.specs.Prelude.{ℕ, zero, suc, ◌+◌, ◌-◌, Bool, true, false, ◌||◌, cond, List, [], ◌++◌, eqb, ltb, length, take, drop, Result, Ok, Err}
 use Rattle.config.specs.declared.Config.{Config}
 use Rattle.supervisor.specs.declared.Supervisor.{Supervisor}
 use Rattle.supervisor.specs.Step.{fresh_supervisor}
 use Rattle.wire.specs.Fields.{u16_at}
-use Rattle.wire.specs.Frame.{whole_frame}
-use Rattle.frame_config.specs.declared.ConfigRead.{ConfigRead}
+use Rattle.wire.specs.declared.FrameError.{FrameError}
+use Rattle.wire.specs.Frame.{frame_error_number, whole_frame}
 use Rattle.frame_config.specs.ConfigFrame.{read_config}
 use Rattle.frame_fence.specs.FenceFrame.{read_fence}
 use Rattle.frame_areas.specs.AreasFrame.{areas_fault}
-use Rattle.frame_telemetry.specs.declared.TelemetryRead.{TelemetryRead}
+use Rattle.types.specs.declared.Telemetry.{Telemetry}
 use Rattle.frame_telemetry.specs.TelemetryFrame.{read_telemetry}
 use Rattle.frame_decision.specs.DecisionFrame.{decision_frame}
 use Rattle.frame_refusal.specs.RefusalFrame.{refusal_frame}
 use Rattle.flight.specs.declared.Flight.{Flight}
-use Rattle.flight.specs.Flight.{refused_flight, accept_flight, step_flight}
+use Rattle.flight.specs.declared.FlightError.{FlightError}
+use Rattle.flight.specs.Flight.{flight_error_number, blank_flight, after_fence, step_flight}
 use Rattle.stream.specs.declared.Due.{Due}
 use Rattle.stream.specs.declared.Session.{Session}
 use Rattle.stream.specs.declared.Answer.{Answer}
-use Rattle.stream.specs.declared.SetUp.{SetUp}
+use Rattle.stream.specs.declared.Turn.{Turn}
 use Rattle.stream.specs.declared.FrameAnswer.{FrameAnswer}
 use Rattle.stream.specs.declared.FramesAnswer.{FramesAnswer}
 
@@ -65,21 +66,21 @@ silent s = record { after = s; bytes = [] }
 
 -- "at the first refusal it writes one kind 255 frame and ends"
 unfoldable pub refusal : ℕ → Reply
-refusal n = record { after = session Due.Nothing (refused_flight n) fresh_supervisor; bytes = refusal_frame n }
+refusal n = record { after = session Due.Nothing blank_flight fresh_supervisor; bytes = refusal_frame n }
 
 -- a kind 1 is due
 unfoldable pub begin : Session
-begin = session Due.Config (refused_flight 0) fresh_supervisor
+begin = session Due.Config blank_flight fresh_supervisor
 
 -- the configuration is read, and a kind 2 is due
 unfoldable pub with_config : Config → Session
 with_config cfg =
-    let f = refused_flight 0 in
-    session Due.Fence (record { refused = 0; cfg = cfg; fence = f.fence; lengths = f.lengths }) fresh_supervisor
+    let f = blank_flight in
+    session Due.Fence (record { cfg = cfg; fence = f.fence; lengths = f.lengths }) fresh_supervisor
 
-abbrev pub after_config : ConfigRead → Reply
-after_config (ConfigRead.Refused n) = refusal n
-after_config (ConfigRead.Frame cfg) = silent (with_config cfg)
+abbrev pub after_config : Result Config FrameError → Reply
+after_config (Err e) = refusal (frame_error_number e)
+after_config (Ok cfg) = silent (with_config cfg)
 
 unfoldable pub answer_config : List ℕ → Reply
 answer_config frame = after_config (read_config frame)
@@ -88,14 +89,13 @@ answer_config frame = after_config (read_config frame)
 abbrev pub flying : Flight → Session
 flying f = session Due.Telemetry f fresh_supervisor
 
+abbrev pub after_flight : Result Flight FlightError → Reply
+after_flight (Err e) = refusal (flight_error_number e)
+after_flight (Ok f) = silent (flying f)
+
 -- the fence frame, then the fence rules and the configuration rules
 unfoldable pub answer_fence : Config → List ℕ → Reply
-answer_fence cfg frame =
-    let read = read_fence frame in
-    let f = accept_flight cfg read in
-    cond (eqb read.refused 0)
-    (cond (eqb f.refused 0) (silent (flying f)) (refusal f.refused))
-    (refusal read.refused)
+answer_fence cfg frame = after_flight (after_fence cfg (read_fence frame))
 
 abbrev pub by_due : Due → Session → List ℕ → Reply
 by_due Due.Config s frame = answer_config frame
@@ -119,7 +119,7 @@ reply_setup s input =
     cond (eqb n 0) (silent s) (answer_setup s (take n input))
 
 -- the session then, how many bytes of the input were taken, and how many are put into a slice
-abbrev pub set_up : Session → List ℕ → List ℕ → SetUp
+abbrev pub set_up : Session → List ℕ → List ℕ → Turn
 set_up s input out =
     let a = reply_setup s input in
     record { session = a.after; taken = setup_frame s.due input; put = put_count a.bytes out }
@@ -134,9 +134,9 @@ pub record Flown : Type 0 where
   pub bytes : List ℕ
 
 -- "writes one kind 4 frame a step": the step is taken with the areas held; "at the first refusal it writes one kind 255 frame and ends"
-abbrev pub after_telemetry : TelemetryRead → Flight → Supervisor → List ℕ → Flown
-after_telemetry (TelemetryRead.Refused n) f s areas = record { due = Due.Nothing; supervisor = s; areas = areas; bytes = refusal_frame n }
-after_telemetry (TelemetryRead.Frame t) f s areas =
+abbrev pub after_telemetry : Result Telemetry FrameError → Flight → Supervisor → List ℕ → Flown
+after_telemetry (Err e) f s areas = record { due = Due.Nothing; supervisor = s; areas = areas; bytes = refusal_frame (frame_error_number e) }
+after_telemetry (Ok t) f s areas =
     record {
       due = Due.Telemetry;
       supervisor = (step_flight f areas s t).supervisor;
@@ -207,6 +207,10 @@ answer_frames (suc turns) f input size p =
 -- every frame that there is: a frame has at least two bytes, so as many turns as there are bytes are enough (proofs/Enough.antt)
 unfoldable pub fly_frames : Flight → Due → Supervisor → List ℕ → List ℕ → ℕ → Progress
 fly_frames f due s areas input size = answer_frames (length input) f input size (nothing_taken due s areas)
+
+-- the same from a session, whose areas held are the first bytes of a slice
+abbrev pub fly_session : Session → List ℕ → List ℕ → ℕ → Progress
+fly_session s held input size = fly_frames s.flight s.due s.supervisor (take s.areas held) input size
 
 -- what is due then, the supervisor, how many bytes of areas are held, how many bytes were taken, and how many were written
 abbrev pub frames_answer : Progress → FramesAnswer

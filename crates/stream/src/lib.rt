@@ -1,17 +1,17 @@
 // The work of the program `decide`, on slices: what is written for each frame that it reads, and when it ends.
-#![tactic(auto, using(crate::proofs::Room::put_nothing, crate::proofs::Room::written_nothing), unfolding(crate::specs::Stream::refusal, crate::specs::Stream::begin, crate::specs::Stream::with_config, crate::specs::Stream::answer_config, crate::specs::Stream::answer_fence, crate::specs::Stream::answer_setup, crate::specs::Stream::setup_frame, crate::specs::Stream::reply_setup, crate::specs::Stream::after_areas, crate::specs::Stream::answer_frame, crate::specs::Stream::next_frame, crate::specs::Stream::end_bytes))]
+#![tactic(auto, using(crate::proofs::Room::put_all, crate::proofs::Room::put_none, crate::proofs::Room::put_nothing, crate::proofs::Room::written_nothing, frame_decision::proofs::Size::size, frame_refusal::proofs::Size::size), unfolding(crate::specs::Stream::refusal, crate::specs::Stream::begin, crate::specs::Stream::with_config, crate::specs::Stream::answer_config, crate::specs::Stream::answer_fence, crate::specs::Stream::answer_setup, crate::specs::Stream::setup_frame, crate::specs::Stream::reply_setup, crate::specs::Stream::after_areas, crate::specs::Stream::answer_frame, crate::specs::Stream::next_frame, crate::specs::Stream::end_bytes))]
 
 ghost use Rattle.std.specs.Prelude.{◌≡◌, List, ℕ, ◌+◌, ◌≤◌, length, take, drop};
 ghost use Rattle.wire.specs.Frame.{frame_written};
 ghost use Rattle.frame_decision.specs.DecisionFrame.{decision_frame};
 ghost use Rattle.frame_refusal.specs.RefusalFrame.{refusal_frame};
 ghost use Rattle.frame_telemetry.specs.TelemetryFrame.{read_telemetry};
-ghost use Rattle.stream.specs.Stream.{begin, silent, refusal, flying, with_config, answer_config, answer_fence, answer_setup, answered, setup_frame, reply_setup, set_up, put_count, after_telemetry, after_areas, takes_areas, answer_frame, frame_answer, next_frame, next_of, answer_next, fly_frames, frames_answer, progress, in_setup, in_flight, end_bytes};
+ghost use Rattle.frame_fence.specs.FenceFrame.{read_fence};
+ghost use Rattle.flight.specs.Flight.{after_fence};
+ghost use Rattle.stream.specs.Stream.{begin, silent, refusal, flying, with_config, answer_config, answer_fence, answer_setup, answered, setup_frame, reply_setup, set_up, put_count, after_telemetry, after_areas, takes_areas, answer_frame, frame_answer, next_frame, next_of, answer_next, fly_session, frames_answer, progress, in_setup, in_flight, end_bytes};
 
 use config::Config;
-use flight::Flight;
-use frame_config::ConfigRead;
-use frame_telemetry::TelemetryRead;
+use flight::{Flight, FlightError};
 use supervisor::Supervisor;
 use types::Decision;
 
@@ -26,7 +26,7 @@ pub enum Due {
     Nothing,
 }
 
-// `areas` is how many bytes of keep-out areas are held, in a slice that the caller keeps.
+// `areas` is how many bytes of keep-out areas are held, in a buffer that the caller keeps: in here they would be copied with each session.
 #[derive(Clone, Copy)]
 pub struct Session {
     pub due: Due,
@@ -42,9 +42,9 @@ struct Answer {
     put: usize,
 }
 
-// The same with how many bytes of the input were taken.
+// The session after what was answered from the front of the input, and how many bytes of it were taken, and put.
 #[derive(Clone, Copy)]
-pub struct SetUp {
+pub struct Turn {
     pub session: Session,
     pub taken: usize,
     pub put: usize,
@@ -99,10 +99,9 @@ fn put_decision(d: Decision, out: &mut [u8]) -> usize
     ensures value { result ≡ put_count (decision_frame d) out.old }
     ensures out_after { out.new ≡ frame_written (decision_frame d) out.old }
 {
-    if frame_decision::write_decision(out, d) == 0 {
-        95
-    } else {
-        0
+    match frame_decision::write_decision(out, d) {
+        Ok(()) => 95,
+        Err(_) => 0,
     }
 }
 
@@ -111,10 +110,9 @@ fn put_refusal(n: u16, out: &mut [u8]) -> usize
     ensures value { result ≡ put_count (refusal_frame n) out.old }
     ensures out_after { out.new ≡ frame_written (refusal_frame n) out.old }
 {
-    if frame_refusal::write_refusal(out, n) == 0 {
-        6
-    } else {
-        0
+    match frame_refusal::write_refusal(out, n) {
+        Ok(()) => 6,
+        Err(_) => 0,
     }
 }
 
@@ -133,7 +131,7 @@ fn refusal(n: u16, out: &mut [u8]) -> Answer
 {
     let session = Session {
         due: Due::Nothing,
-        flight: flight::refused_flight(n),
+        flight: Flight::default(),
         supervisor: Supervisor::fresh(),
         areas: 0,
     };
@@ -149,13 +147,13 @@ pub fn begin() -> Session
 {
     Session {
         due: Due::Config,
-        flight: flight::refused_flight(0),
+        flight: Flight::default(),
         supervisor: Supervisor::fresh(),
         areas: 0,
     }
 }
 
-#[tactic(auto, unfolding(crate::specs::Stream::with_config, flight::specs::Flight::refused_flight))]
+#[tactic(auto, unfolding(crate::specs::Stream::with_config, flight::specs::Flight::blank_flight))]
 fn with_config(cfg: Config) -> Session
     ensures { result ≡ with_config cfg }
 {
@@ -163,7 +161,7 @@ fn with_config(cfg: Config) -> Session
         due: Due::Fence,
         flight: Flight {
             cfg,
-            ..flight::refused_flight(0)
+            ..Flight::default()
         },
         supervisor: Supervisor::fresh(),
         areas: 0,
@@ -175,8 +173,8 @@ fn answer_config(frame: &[u8], out: &mut [u8]) -> Answer
     ensures out_after { out.new ≡ frame_written (answer_config frame.now).bytes out.old }
 {
     match frame_config::read_config(frame) {
-        ConfigRead::Refused(n) => refusal(n, out),
-        ConfigRead::Frame(cfg) => silent(with_config(cfg)),
+        Err(e) => refusal(e.number(), out),
+        Ok(cfg) => silent(with_config(cfg)),
     }
 }
 
@@ -192,19 +190,21 @@ fn flying(flight: Flight) -> Session
 }
 
 // The fence frame, then the fence rules and the configuration rules.
-fn answer_fence(cfg: Config, frame: &[u8], out: &mut [u8]) -> Answer
-    ensures value { result ≡ answered (answer_fence cfg frame.now) out.old }
-    ensures out_after { out.new ≡ frame_written (answer_fence cfg frame.now).bytes out.old }
+fn read_flight(cfg: &Config, frame: &[u8]) -> Result<Flight, FlightError>
+    ensures { result ≡ after_fence cfg.now (read_fence frame.now) }
 {
-    let read = frame_fence::read_fence(frame);
-    if read.refused != 0 {
-        return refusal(read.refused, out);
+    let read = frame_fence::read_fence(frame)?;
+    flight::accept_flight(cfg, &read)
+}
+
+fn answer_fence(cfg: &Config, frame: &[u8], out: &mut [u8]) -> Answer
+    ensures value { result ≡ answered (answer_fence cfg.now frame.now) out.old }
+    ensures out_after { out.new ≡ frame_written (answer_fence cfg.now frame.now).bytes out.old }
+{
+    match read_flight(cfg, frame) {
+        Err(e) => refusal(e.number(), out),
+        Ok(f) => silent(flying(f)),
     }
-    let f = flight::accept_flight(cfg, read);
-    if f.refused != 0 {
-        return refusal(f.refused, out);
-    }
-    silent(flying(f))
 }
 
 // One whole frame of kind 1 or 2. Where neither is due, nothing happens.
@@ -214,7 +214,7 @@ fn answer_setup(session: &Session, frame: &[u8], out: &mut [u8]) -> Answer
 {
     match session.due {
         Due::Config => answer_config(frame, out),
-        Due::Fence => answer_fence(session.flight.cfg, frame, out),
+        Due::Fence => answer_fence(&session.flight.cfg, frame, out),
         Due::Telemetry | Due::AfterAreas | Due::Nothing => silent(*session),
     }
 }
@@ -232,20 +232,20 @@ fn setup_frame(due: Due, input: &[u8]) -> usize
 }
 
 // Answers the frame of kind 1 or 2 at the front of the input, where one is due and whole.
-pub fn set_up(session: &Session, input: &[u8], out: &mut [u8]) -> SetUp
+pub fn set_up(session: &Session, input: &[u8], out: &mut [u8]) -> Turn
     ensures value { result ≡ set_up session.now input.now out.old }
     ensures out_after { out.new ≡ frame_written (reply_setup session.now input.now).bytes out.old }
 {
     let n = setup_frame(session.due, input);
     if n == 0 {
-        return SetUp {
+        return Turn {
             session: *session,
             taken: 0,
             put: 0,
         };
     }
     let a = answer_setup(session, &input[..n], out);
-    SetUp {
+    Turn {
         session: a.session,
         taken: n,
         put: a.put,
@@ -266,13 +266,13 @@ fn step_frame(
     ensures out_after { out.new ≡ frame_written (after_telemetry (read_telemetry frame.now) flight.now supervisor.now areas.now).bytes out.old }
 {
     match frame_telemetry::read_telemetry(frame) {
-        TelemetryRead::Refused(n) => FrameAnswer {
+        Err(e) => FrameAnswer {
             due: Due::Nothing,
             supervisor: *supervisor,
             areas: areas.len(),
-            put: put_refusal(n, out),
+            put: put_refusal(e.number(), out),
         },
-        TelemetryRead::Frame(t) => {
+        Ok(t) => {
             let next = flight::step_flight(flight, areas, supervisor, &t);
             FrameAnswer {
                 due: Due::Telemetry,
@@ -285,56 +285,49 @@ fn step_frame(
 }
 
 // One whole frame of kind 13: where it is accepted, it is held in the place of the one before.
-fn hold_areas(
-    supervisor: &Supervisor,
-    areas: usize,
-    frame: &[u8],
-    out: &mut [u8],
-    held: &mut [u8],
-) -> FrameAnswer
-    requires areas_bound { areas ≤ 1045 }
+#[tactic(auto, using(crate::proofs::Holding::accepted_fits, crate::proofs::Holding::held_answer, crate::proofs::Holding::held_written, crate::proofs::Holding::held_bytes, crate::proofs::Holding::not_held, crate::proofs::Holding::kept_length))]
+fn hold_areas(p: &FramesAnswer, frame: &[u8], out: &mut [u8], held: &mut [u8]) -> FrameAnswer
+    requires areas_bound { p.now.areas ≤ 1045 }
     requires in_bounds { 1045 ≤ length held.old }
-    ensures value { result ≡ frame_answer (after_areas supervisor.now (take areas held.old) frame.now) out.old }
-    ensures out_after { out.new ≡ frame_written (after_areas supervisor.now (take areas held.old) frame.now).bytes out.old }
-    ensures held_after { take result.areas held.new ≡ (after_areas supervisor.now (take areas held.old) frame.now).areas }
+    ensures value { result ≡ frame_answer (after_areas p.now.supervisor (take p.now.areas held.old) frame.now) out.old }
+    ensures out_after { out.new ≡ frame_written (after_areas p.now.supervisor (take p.now.areas held.old) frame.now).bytes out.old }
+    ensures held_after { take result.areas held.new ≡ (after_areas p.now.supervisor (take p.now.areas held.old) frame.now).areas }
 {
-    let fault = frame_areas::areas_fault(frame);
-    if fault == 0 {
-        return FrameAnswer {
+    match frame_areas::check_areas(frame) {
+        Ok(()) => FrameAnswer {
             due: Due::AfterAreas,
-            supervisor: *supervisor,
+            supervisor: p.supervisor,
             areas: slices::copy(frame, held),
             put: 0,
-        };
-    }
-    FrameAnswer {
-        due: Due::Nothing,
-        supervisor: *supervisor,
-        areas,
-        put: put_refusal(fault, out),
+        },
+        Err(e) => FrameAnswer {
+            due: Due::Nothing,
+            supervisor: p.supervisor,
+            areas: p.areas,
+            put: put_refusal(e.number(), out),
+        },
     }
 }
 
 // One whole frame of kind 3 or 13. The areas held are the first bytes of `held`.
+#[tactic(auto, using(crate::proofs::Frames::kept), unfolding(crate::specs::Stream::answer_frame))]
 fn fly_frame(
     flight: &Flight,
-    due: Due,
-    supervisor: &Supervisor,
-    areas: usize,
+    p: &FramesAnswer,
     frame: &[u8],
     out: &mut [u8],
     held: &mut [u8],
 ) -> FrameAnswer
-    requires areas_bound { areas ≤ 1045 }
+    requires areas_bound { p.now.areas ≤ 1045 }
     requires in_bounds { 1045 ≤ length held.old }
-    ensures value { result ≡ frame_answer (answer_frame flight.now due supervisor.now (take areas held.old) frame.now) out.old }
-    ensures out_after { out.new ≡ frame_written (answer_frame flight.now due supervisor.now (take areas held.old) frame.now).bytes out.old }
-    ensures held_after { take result.areas held.new ≡ (answer_frame flight.now due supervisor.now (take areas held.old) frame.now).areas }
+    ensures value { result ≡ frame_answer (answer_frame flight.now p.now.due p.now.supervisor (take p.now.areas held.old) frame.now) out.old }
+    ensures out_after { out.new ≡ frame_written (answer_frame flight.now p.now.due p.now.supervisor (take p.now.areas held.old) frame.now).bytes out.old }
+    ensures held_after { take result.areas held.new ≡ (answer_frame flight.now p.now.due p.now.supervisor (take p.now.areas held.old) frame.now).areas }
 {
-    if due.takes_areas(frame) {
-        hold_areas(supervisor, areas, frame, out, held)
+    if p.due.takes_areas(frame) {
+        hold_areas(p, frame, out, held)
     } else {
-        step_frame(flight, supervisor, &held[..areas], frame, out)
+        step_frame(flight, &p.supervisor, &held[..p.areas], frame, out)
     }
 }
 
@@ -352,6 +345,7 @@ fn next_frame(due: Due, input: &[u8], room: usize) -> usize
 }
 
 // The same behind the frames that were taken.
+#[tactic(auto, using(crate::proofs::Frames::next_of_lem, crate::proofs::Frames::in_rest))]
 fn next_of(p: &FramesAnswer, input: &[u8], out: &[u8]) -> usize
     requires taken_in_bounds { p.now.taken ≤ length input.now }
     requires put_in_bounds { p.now.put ≤ length out.now }
@@ -379,15 +373,7 @@ fn fly_next(
     ensures taken_in_bounds { (result.taken ≤ length input.now) × (p.now.put ≤ result.put) × (result.put ≤ length out.new) × (result.areas ≤ 1045) }
 {
     let end = p.taken + n;
-    let a = fly_frame(
-        flight,
-        p.due,
-        &p.supervisor,
-        p.areas,
-        &input[p.taken..end],
-        &mut out[p.put..],
-        held,
-    );
+    let a = fly_frame(flight, p, &input[p.taken..end], &mut out[p.put..], held);
     FramesAnswer {
         due: a.due,
         supervisor: a.supervisor,
@@ -398,27 +384,22 @@ fn fly_next(
 }
 
 // Answers the frames of kinds 3 and 13 from the front of the input, as long as one is due, whole, and out has room for its answer. The
-// areas held are the first bytes of `held`, which has room for the longest frame of them.
-fn fly_within(
-    flight: &Flight,
-    due: Due,
-    supervisor: &Supervisor,
-    areas: usize,
+// areas held are the first bytes of `held`, which has room for the longest frame of them; those beyond it are none.
+pub fn fly_frames(
+    session: &Session,
     input: &[u8],
     out: &mut [u8],
-    held: &mut [u8],
+    held: &mut [u8; 1045],
 ) -> FramesAnswer
-    requires areas_bound { areas ≤ 1045 }
-    requires in_bounds { 1045 ≤ length held.old }
-    ensures value { result ≡ frames_answer (fly_frames flight.now due supervisor.now (take areas held.old) input.now (length out.old)) }
-    ensures out_after { out.new ≡ frame_written (fly_frames flight.now due supervisor.now (take areas held.old) input.now (length out.old)).written out.old }
-    ensures held_after { take result.areas held.new ≡ (fly_frames flight.now due supervisor.now (take areas held.old) input.now (length out.old)).areas }
+    ensures value { result ≡ frames_answer (fly_session session.now held.old input.now (length out.old)) }
+    ensures out_after { out.new ≡ frame_written (fly_session session.now held.old input.now (length out.old)).written out.old }
+    ensures held_after { take result.areas held.new ≡ (fly_session session.now held.old input.now (length out.old)).areas }
     ensures taken_in_bounds { (result.taken ≤ length input.now) × (result.put ≤ length out.old) }
 {
     let mut p = FramesAnswer {
-        due,
-        supervisor: *supervisor,
-        areas,
+        due: session.due,
+        supervisor: session.supervisor,
+        areas: session.areas.min(1045),
         taken: 0,
         put: 0,
     };
@@ -427,28 +408,9 @@ fn fly_within(
         if n == 0 {
             return p;
         }
-        p = fly_next(flight, &p, n, input, out, held);
+        p = fly_next(&session.flight, &p, n, input, out, held);
     }
     p
-}
-
-// The same for any number of bytes of areas: those beyond the slice are none.
-pub fn fly_frames(
-    flight: &Flight,
-    due: Due,
-    supervisor: &Supervisor,
-    areas: usize,
-    input: &[u8],
-    out: &mut [u8],
-    held: &mut [u8; 1045],
-) -> FramesAnswer
-    ensures value { result ≡ frames_answer (fly_frames flight.now due supervisor.now (take areas held.old) input.now (length out.old)) }
-    ensures out_after { out.new ≡ frame_written (fly_frames flight.now due supervisor.now (take areas held.old) input.now (length out.old)).written out.old }
-    ensures held_after { take result.areas held.new ≡ (fly_frames flight.now due supervisor.now (take areas held.old) input.now (length out.old)).areas }
-    ensures taken_in_bounds { (result.taken ≤ length input.now) × (result.put ≤ length out.old) }
-{
-    let n = wire::smaller(areas, 1045);
-    fly_within(flight, due, supervisor, n, input, out, held)
 }
 
 // ---- the end

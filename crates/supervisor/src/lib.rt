@@ -20,7 +20,7 @@ use types::{
 use validate::GlitchState;
 
 // The Rust's Supervisor without cfg and fence.
-#[derive(Clone, Copy)]
+#[derive(Clone, Copy, Default)]
 pub struct Supervisor {
     pub triggers: TriggerState,
     pub arbiter: ArbiterState,
@@ -108,7 +108,7 @@ fn locate(
         };
     };
     let pt = Point2 { n: p.n, e: p.e };
-    let fence = geometry::nearest_by(*poly, *lengths, pt);
+    let fence = poly.nearest_by(lengths, pt);
     let d = p.horizontal_dist_home();
     Located {
         place: Some(Place {
@@ -221,14 +221,12 @@ fn disarmed(cfg: &Config, clock: ClockStep, glitch: GlitchState) -> Stepped
 {
     Stepped {
         supervisor: Supervisor {
-            triggers: TriggerState::default(),
-            arbiter: ArbiterState::default(),
-            disarm: disarm::reset_gate(),
             glitch,
             last_now: clock.last_now,
             epoch_start: clock.epoch_start,
             backwards_streak: clock.backwards_streak,
             initialized: true,
+            ..Supervisor::fresh()
         },
         decision: disarmed_decision(cfg, clock.fault),
         side: 255,
@@ -255,7 +253,7 @@ fn decision_of(sensed: &Sensed, output: Request, fault: bool, eligible: bool) ->
 fn flown(
     sensed: &Sensed,
     arbiter: ArbiterState,
-    gate: DisarmGate,
+    mut gate: DisarmGate,
     clock: ClockStep,
     t: &Telemetry,
     cfg: &Config,
@@ -267,16 +265,14 @@ fn flown(
         sensed.triggers.battery_critical_latched,
         sensed.triggers.energy_infeasible_latched,
     );
-    let next = arbiter::arbitrate(
-        arbiter,
+    let next = arbiter.arbitrate(
         t.now_ms,
         cfg.recovery_hold_ms,
         wanted,
         sensed.position_valid,
         clock.fault,
     );
-    let held = disarm::evaluate_gate(
-        gate,
+    let eligible = gate.evaluate(
         t.now_ms,
         t.armed,
         t.landed,
@@ -289,32 +285,24 @@ fn flown(
         supervisor: Supervisor {
             triggers: sensed.triggers,
             arbiter: next.state,
-            disarm: held.gate,
+            disarm: gate,
             glitch: sensed.glitch,
             last_now: clock.last_now,
             epoch_start: clock.epoch_start,
             backwards_streak: clock.backwards_streak,
             initialized: true,
         },
-        decision: decision_of(sensed, next.output, clock.fault, held.eligible),
+        decision: decision_of(sensed, next.output, clock.fault, eligible),
         side: sensed.side,
     }
 }
 
 impl Supervisor {
+    #[tactic(auto, unfolding(crate::specs::Step::fresh_supervisor, triggers::specs::Update::fresh_triggers))]
     pub fn fresh() -> Self
         ensures { result ≡ fresh_supervisor }
     {
-        Self {
-            triggers: TriggerState::default(),
-            arbiter: ArbiterState::default(),
-            disarm: disarm::reset_gate(),
-            glitch: GlitchState::default(),
-            last_now: None,
-            epoch_start: 0,
-            backwards_streak: 0,
-            initialized: false,
-        }
+        Self::default()
     }
 
     pub fn new(cfg: &Config, fence: &Geofence) -> Result<Self, ConfigError>
@@ -368,7 +356,7 @@ impl Supervisor {
     pub fn step(&self, cfg: &Config, fence: &Geofence, raw: &Telemetry) -> Stepped
         ensures { result ≡ step (base_settings cfg.now) self.now (fed_at (fence_site fence.now) raw.now) }
     {
-        let lengths = geometry::side_lengths(fence.poly);
+        let lengths = fence.poly.side_lengths();
         self.step_by(cfg, fence, &lengths, &[], raw)
     }
 }

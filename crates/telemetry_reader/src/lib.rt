@@ -1,30 +1,15 @@
 // The reader of kind 3 frames once more, with the same answer: tests first, then the values. `frame_telemetry::read_telemetry` is compiled into the
 // step as long as nothing else of the library calls it, so whoever reads such a frame beside a step calls this one.
-#![tactic(auto)]
+#![tactic(auto, unfolding(frame_telemetry::specs::Readings::option_gps_at, frame_telemetry::specs::Readings::stamped_f32_at, frame_telemetry::specs::Readings::stamped_bool_at, frame_telemetry::specs::Readings::stamped_landed_at, options::specs::Options::option_u8_at, options::specs::Options::option_u32_at, options::specs::Options::option_f32_at, options::specs::Position::vec3_at, options::specs::Position::option_position_at, frame_telemetry::specs::TelemetryFrame::telemetry_at, frame_telemetry::specs::TelemetryFrame::telemetry_tests, frame_telemetry::specs::TelemetryFrame::telemetry_valid, frame_telemetry::specs::TelemetryFrame::read_telemetry))]
 
 ghost use Rattle.std.specs.Prelude.{◌≡◌, ◌<◌};
 ghost use Rattle.options.specs.Position.{option_position_at};
-ghost use Rattle.frame_telemetry.specs.Readings.{fix_at, landed_at, option_gps_at, stamped_f32_at, stamped_bool_at, stamped_landed_at};
+ghost use Rattle.frame_telemetry.specs.Readings.{option_gps_at, stamped_at};
 ghost use Rattle.frame_telemetry.specs.TelemetryFrame.{telemetry_at, telemetry_valid, read_telemetry};
 
-use frame_telemetry::TelemetryRead;
-use types::{
-    BatteryInputs, GpsFix, GpsSample, LandedState, PositionSample, Stamped, Telemetry, Vec3,
-};
-
-// A byte that is no fix's, which is refused before, is read as None.
-fn fix_at(s: &[u8], at: usize) -> GpsFix
-    ensures { result ≡ fix_at s.now at }
-{
-    GpsFix::try_from(wire::u8_at(s, at)).unwrap_or(GpsFix::None)
-}
-
-// A byte that is no state's, which is refused before, is read as Undefined.
-fn landed_at(s: &[u8], at: usize) -> LandedState
-    ensures { result ≡ landed_at s.now at }
-{
-    LandedState::try_from(wire::u8_at(s, at)).unwrap_or(LandedState::Undefined)
-}
+use options::Field;
+use types::{BatteryInputs, GpsSample, PositionSample, Stamped, Telemetry, Vec3};
+use wire::FrameError;
 
 fn option_gps_at(s: &[u8], at: usize) -> Option<GpsSample>
     requires { at < 65536 }
@@ -32,9 +17,9 @@ fn option_gps_at(s: &[u8], at: usize) -> Option<GpsSample>
 {
     if wire::flag_at(s, at) {
         let t_ms = wire::u32_at(s, at + 1);
-        let fix = fix_at(s, at + 5);
-        let sats = options::option_u8_at(s, at + 6);
-        let hdop = options::option_f32_at(s, at + 8);
+        let fix = options::fix_at(s, at + 5);
+        let sats = options::option_at(s, at + 6);
+        let hdop = options::option_at(s, at + 8);
         Some(GpsSample {
             t_ms,
             fix,
@@ -46,42 +31,14 @@ fn option_gps_at(s: &[u8], at: usize) -> Option<GpsSample>
     }
 }
 
-fn stamped_f32_at(s: &[u8], at: usize) -> Option<Stamped<f32>>
+fn stamped_at<T: Field>(s: &[u8], at: usize) -> Option<Stamped<T>>
     requires { at < 65536 }
-    ensures { result ≡ stamped_f32_at s.now at }
+    ensures { result ≡ stamped_at T.read s.now at }
 {
     if wire::flag_at(s, at) {
         Some(Stamped {
             t_ms: wire::u32_at(s, at + 1),
-            value: wire::f32_at(s, at + 5),
-        })
-    } else {
-        None
-    }
-}
-
-fn stamped_bool_at(s: &[u8], at: usize) -> Option<Stamped<bool>>
-    requires { at < 65536 }
-    ensures { result ≡ stamped_bool_at s.now at }
-{
-    if wire::flag_at(s, at) {
-        Some(Stamped {
-            t_ms: wire::u32_at(s, at + 1),
-            value: wire::flag_at(s, at + 5),
-        })
-    } else {
-        None
-    }
-}
-
-fn stamped_landed_at(s: &[u8], at: usize) -> Option<Stamped<LandedState>>
-    requires { at < 65536 }
-    ensures { result ≡ stamped_landed_at s.now at }
-{
-    if wire::flag_at(s, at) {
-        Some(Stamped {
-            t_ms: wire::u32_at(s, at + 1),
-            value: landed_at(s, at + 5),
+            value: T::read(s, at + 5),
         })
     } else {
         None
@@ -112,32 +69,20 @@ fn position_at(s: &[u8]) -> Option<PositionSample>
 fn telemetry_at(s: &[u8]) -> Telemetry
     ensures { result ≡ telemetry_at s.now }
 {
-    let now_ms = wire::u32_at(s, 4);
-    let position = position_at(s);
-    let gps = option_gps_at(s, 37);
-    let voltage_v = stamped_f32_at(s, 50);
-    let percent = stamped_f32_at(s, 59);
-    let remaining_wh = stamped_f32_at(s, 68);
-    let battery = BatteryInputs {
-        voltage_v,
-        percent,
-        remaining_wh,
-    };
-    let gcs_heartbeat_ms = options::option_u32_at(s, 77);
-    let armed = stamped_bool_at(s, 82);
-    let landed = stamped_landed_at(s, 88);
-    let rc_ok = stamped_bool_at(s, 94);
-    let ekf_ok = stamped_bool_at(s, 100);
     Telemetry {
-        now_ms,
-        position,
-        gps,
-        battery,
-        gcs_heartbeat_ms,
-        armed,
-        landed,
-        rc_ok,
-        ekf_ok,
+        now_ms: wire::u32_at(s, 4),
+        position: position_at(s),
+        gps: option_gps_at(s, 37),
+        battery: BatteryInputs {
+            voltage_v: stamped_at(s, 50),
+            percent: stamped_at(s, 59),
+            remaining_wh: stamped_at(s, 68),
+        },
+        gcs_heartbeat_ms: options::option_at(s, 77),
+        armed: stamped_at(s, 82),
+        landed: stamped_at(s, 88),
+        rc_ok: stamped_at(s, 94),
+        ekf_ok: stamped_at(s, 100),
     }
 }
 
@@ -145,37 +90,33 @@ fn telemetry_at(s: &[u8]) -> Telemetry
 fn telemetry_valid(s: &[u8]) -> bool
     ensures { result ≡ telemetry_valid s.now }
 {
-    let v = options::option_valid(s, 8, 28);
-    let v = v && options::option_valid(s, 37, 12);
-    let v = v && wire::byte_below(s, 42, 3);
-    let v = v && options::option_valid(s, 43, 1);
-    let v = v && options::option_valid(s, 45, 4);
-    let v = v && options::option_valid(s, 50, 8);
-    let v = v && options::option_valid(s, 59, 8);
-    let v = v && options::option_valid(s, 68, 8);
-    let v = v && options::option_valid(s, 77, 4);
-    let v = v && options::option_valid(s, 82, 5);
-    let v = v && wire::byte_below(s, 87, 2);
-    let v = v && options::option_valid(s, 88, 5);
-    let v = v && wire::byte_below(s, 93, 5);
-    let v = v && options::option_valid(s, 94, 5);
-    let v = v && wire::byte_below(s, 99, 2);
-    let v = v && options::option_valid(s, 100, 5);
-    v & wire::byte_below(s, 105, 2)
+    let valid = options::option_valid(s, 8, 28)
+        && options::option_valid(s, 37, 12)
+        && wire::byte_below(s, 42, 3)
+        && options::option_valid(s, 43, 1)
+        && options::option_valid(s, 45, 4)
+        && options::option_valid(s, 50, 8)
+        && options::option_valid(s, 59, 8)
+        && options::option_valid(s, 68, 8)
+        && options::option_valid(s, 77, 4)
+        && options::option_valid(s, 82, 5)
+        && wire::byte_below(s, 87, 2)
+        && options::option_valid(s, 88, 5)
+        && wire::byte_below(s, 93, 5)
+        && options::option_valid(s, 94, 5)
+        && wire::byte_below(s, 99, 2)
+        && options::option_valid(s, 100, 5);
+    valid & wire::byte_below(s, 105, 2)
 }
 
-// The Telemetry of a whole frame of kind 3, or the number of the refusal.
-pub fn read_telemetry(s: &[u8]) -> TelemetryRead
+// The Telemetry of a whole frame of kind 3.
+pub fn read_telemetry(s: &[u8]) -> Result<Telemetry, FrameError>
     ensures { result ≡ read_telemetry s.now }
 {
-    let fault = wire::frame_fault(s, 3, 104);
-    if fault == 0 {
-        if telemetry_valid(s) {
-            TelemetryRead::Frame(telemetry_at(s))
-        } else {
-            TelemetryRead::Refused(4)
-        }
+    wire::check_frame(s, 3, 104)?;
+    if telemetry_valid(s) {
+        Ok(telemetry_at(s))
     } else {
-        TelemetryRead::Refused(fault)
+        Err(FrameError::OutOfRange)
     }
 }

@@ -1,5 +1,5 @@
 // The Rust's time.rs: ages by wrapping subtraction.
-#![tactic(auto, unfolding(crate::specs::Time::fresh, crate::specs::Time::hold_met))]
+#![tactic(auto, unfolding(crate::specs::Time::wrapping_sub, crate::specs::Time::age, crate::specs::Time::fresh, crate::specs::Time::hold_met))]
 
 ghost use Rattle.std.specs.Prelude.{◌≡◌};
 ghost use Rattle.time.specs.Time.{wrapping, age, fresh, hold_met};
@@ -8,12 +8,8 @@ ghost use Rattle.time.specs.Time.{wrapping, age, fresh, hold_met};
 pub fn age_ms(now: u32, then: u32) -> Option<u32>
     ensures { result ≡ age wrapping now then }
 {
-    let diff = std::num::wrapping_sub_u32(now, then);
-    if diff >= types::HALF_RANGE_MS {
-        None
-    } else {
-        Some(diff)
-    }
+    let diff = now.wrapping_sub(then);
+    (diff < types::HALF_RANGE_MS).then_some(diff)
 }
 
 pub fn is_fresh(now: u32, t_ms: u32, limit_ms: u32) -> bool

@@ -5,7 +5,7 @@ ghost use Rattle.std.specs.Prelude.{◌≡◌};
 ghost use Rattle.time.specs.Time.{wrapping};
 ghost use Rattle.timers.specs.Timer.{cleared, pending, held_set, hold_pair, rested, raised_by};
 
-#[derive(Clone, Copy)]
+#[derive(Clone, Copy, Default)]
 pub struct Timer {
     pub since_ms: Option<u32>,
 }
@@ -30,7 +30,7 @@ impl Timer {
     pub fn clear() -> Self
         ensures { result ≡ cleared }
     {
-        Self { since_ms: None }
+        Self::default()
     }
 
     pub fn pending(self) -> bool

@@ -1,5 +1,6 @@
 -- A call, case by case. Assumes nothing.
-use Rattle.std.proofs.Common.{◌≡◌, ℕ, ◌<◌, ◌≤◌, Bool, true, false, cond, ltb, List, ◌++◌, length, drop, sym, refl, ap, ◌∙◌, append-nil, arith, ltb-false, le-ltb, lt-ltb, eq-eqb, ne_eqb}
+use Rattle.std.specs.Prelude.{Ok, Err}
+use Rattle.std.proofs.Common.{◌≡◌, ℕ, ◌<◌, ◌≤◌, Bool, true, false, cond, ltb, List, ◌++◌, length, drop, sym, refl, ap, ◌∙◌, append-nil, arith, ltb-false, le-ltb, lt-ltb}
 use lib.Seq.{sets, drop-length}
 use Rattle.types.specs.declared.Telemetry.{Telemetry}
 use Rattle.wire.specs.Fields.{byte_below, le_bytes, le32, le_flag}
@@ -8,31 +9,32 @@ use Rattle.wire.proofs.Stores.{stored}
 use Rattle.frame_telemetry.specs.TelemetryFrame.{telemetry_frame}
 use Rattle.frame_telemetry.proofs.Size.{size}
 use Rattle.trial.specs.declared.Generator.{Generator}
+use Rattle.wire.specs.declared.FrameError.{FrameError}
 use Rattle.trial.specs.Trial.{next_frame}
-use Rattle.trial.specs.Call.{generator_at, generator_bytes, generator_fault, declined, made, trial_call}
+use Rattle.trial.specs.Call.{generator_at, generator_bytes, read_generator, declined, made, trial_call}
 
-module _ (g o : List ℕ) where
-  pub refused : (generator_fault g ≡ 0 → ⊥) → trial_call g o ≡ declined (generator_fault g) g o
+module _ {x : Generator} (g o : List ℕ) (e : read_generator g ≡ Ok x) where
+  pub no_room : length o < 106 → trial_call g o ≡ declined FrameError.NoRoom g o
   unfolding trial_call
-  refused h = rw (ne_eqb (generator_fault g) 0 h)
+  no_room h = rw (e, lt-ltb (length o) 106 h)
 
-  pub no_room : generator_fault g ≡ 0 → length o < 106 → trial_call g o ≡ declined 5 g o
+  pub makes : 106 ≤ length o → trial_call g o ≡ made (next_frame x) o
   unfolding trial_call
-  no_room e h = rw (eq-eqb (generator_fault g) 0 e, lt-ltb (length o) 106 h)
+  makes h = rw (e, le-ltb (length o) 106 h)
 
-  pub makes : generator_fault g ≡ 0 → 106 ≤ length o → trial_call g o ≡ made (next_frame (generator_at g)) o
-  unfolding trial_call
-  makes e h = rw (eq-eqb (generator_fault g) 0 e, le-ltb (length o) 106 h)
-
--- a generator that earns no refusal has nine bytes
-pub nine : (s : List ℕ) → generator_fault s ≡ 0 → length s ≡ 9
-unfolding generator_fault
-nine s h = go (ltb (length s) 9) (ltb 9 (length s)) (byte_below s 8 2) refl refl h
+-- a generator that is read has nine bytes
+pub read_is : {x : Generator} (s : List ℕ) → read_generator s ≡ Ok x → (length s ≡ 9) × (generator_at s ≡ x)
+unfolding read_generator
+read_is {x} s h = go (ltb (length s) 9) (ltb 9 (length s)) (byte_below s 8 2) refl refl h
   where
-    go : (a b d : Bool) → ltb (length s) 9 ≡ a → ltb 9 (length s) ≡ b → ◌≡◌ {A = ℕ} (cond a 1 (cond b 3 (cond d 0 4))) 0 → length s ≡ 9
-    go true b d p q e = absurd (omega arith)
-    go false true d p q e = absurd (omega arith)
-    go false false d p q e = omega (arith, ltb-false (length s) 9 p, ltb-false 9 (length s) q)
+    go :
+        (a b d : Bool) → ltb (length s) 9 ≡ a → ltb 9 (length s) ≡ b →
+        cond a (Err FrameError.Incomplete) (cond b (Err FrameError.WrongLength) (cond d (Ok (generator_at s)) (Err FrameError.OutOfRange))) ≡ Ok x →
+        (length s ≡ 9) × (generator_at s ≡ x)
+    go true b d p q e = absurd cc
+    go false true d p q e = absurd cc
+    go false false false p q e = absurd cc
+    go false false true p q e = (omega (arith, ltb-false (length s) 9 p, ltb-false 9 (length s) q), cc)
 
 pub nine_bytes : (g : Generator) → length (generator_bytes g) ≡ 9
 unfolding generator_bytes le_bytes le32 le_flag

@@ -1,9 +1,11 @@
 -- A call of the entry: the number and both slices, for all bytes. Assumes nothing.
-use Rattle.std.specs.Prelude.{ℕ, zero, suc, ◌/◌, min, false, cond, List, [], ◌++◌, length, drop, ◌==◌, nat_lt}
+use Rattle.std.specs.Prelude.{ℕ, zero, suc, ◌/◌, min, false, cond, List, [], ◌++◌, length, drop, nat_lt, Result, Ok, Err}
 use Rattle.wire.specs.Fields.{u32_at, flag_at, byte_below, le32, le_flag}
 use Rattle.frame_telemetry.specs.TelemetryFrame.{telemetry_frame}
 use Rattle.trial.specs.declared.Generator.{Generator}
 use Rattle.trial.specs.declared.NextFrame.{NextFrame}
+use Rattle.wire.specs.declared.FrameError.{FrameError}
+use Rattle.wire.specs.Frame.{frame_error_number}
 use Rattle.trial.specs.Trial.{next_frame}
 
 -- the generator's 9 bytes: x, now_ms, and a byte that is 0 before the first frame and 1 after it
@@ -13,13 +15,13 @@ generator_at s = record { x = u32_at s 0; now_ms = u32_at s 4; begun = flag_at s
 unfoldable pub generator_bytes : Generator → List ℕ
 generator_bytes g = le32 g.x ++ (le32 g.now_ms ++ le_flag g.begun)
 
--- fewer bytes: 1; more: 3; a last byte above 1: 4
-unfoldable pub generator_fault : List ℕ → ℕ
-generator_fault s =
-    cond (nat_lt (length s) 9) 1
-    (cond (nat_lt 9 (length s)) 3
-    (cond (byte_below s 8 2) 0
-    4))
+-- a slice's generator, or why there is none: fewer bytes, more, or a last byte above 1
+unfoldable pub read_generator : List ℕ → Result Generator FrameError
+read_generator s =
+    cond (nat_lt (length s) 9) (Err FrameError.Incomplete)
+    (cond (nat_lt 9 (length s)) (Err FrameError.WrongLength)
+    (cond (byte_below s 8 2) (Ok (generator_at s))
+    (Err FrameError.OutOfRange)))
 
 -- a call's number and slices at its end
 pub record TrialCall : Type 0 where
@@ -28,8 +30,8 @@ pub record TrialCall : Type 0 where
   pub output : List ℕ
 
 -- "draws nothing and returns 5 for an output under 106 bytes", and so for each refusal
-abbrev pub declined : ℕ → List ℕ → List ℕ → TrialCall
-declined n generator output = record { number = n; generator = generator; output = output }
+abbrev pub declined : FrameError → List ℕ → List ℕ → TrialCall
+declined e generator output = record { number = frame_error_number e; generator = generator; output = output }
 
 -- "Each call writes the next frame"
 abbrev pub made : NextFrame → List ℕ → TrialCall
@@ -40,11 +42,12 @@ made t output =
       output = telemetry_frame t.telemetry ++ drop 106 output;
     }
 
+abbrev pub answered : Result Generator FrameError → List ℕ → List ℕ → TrialCall
+answered (Err e) generator output = declined e generator output
+answered (Ok g) generator output = cond (nat_lt (length output) 106) (declined FrameError.NoRoom generator output) (made (next_frame g) output)
+
 unfoldable pub trial_call : List ℕ → List ℕ → TrialCall
-trial_call generator output =
-    cond (generator_fault generator == 0)
-    (cond (nat_lt (length output) 106) (declined 5 generator output) (made (next_frame (generator_at generator)) output))
-    (declined (generator_fault generator) generator output)
+trial_call generator output = answered (read_generator generator) generator output
 
 -- ---- frames in a row
 

@@ -1,5 +1,5 @@
 -- A frame's Telemetry from its draws, in declared order. "Fields of an absent reading are drawn and written as zero." Assumes nothing.
-use Rattle.std.specs.Prelude.{ℕ, ◌+◌, ◌/◌, ◌%◌, ◌^◌, true, cond, List, slice_index, Option, Some, None, Float, Bool}
+use Rattle.std.specs.Prelude.{ℕ, ◌+◌, ◌/◌, ◌%◌, ◌^◌, true, cond, List, slice_index, Option, Some, None, Float}
 use Rattle.types.specs.declared.Vec3.{Vec3}
 use Rattle.types.specs.declared.BatteryInputs.{BatteryInputs}
 use Rattle.types.specs.declared.Telemetry.{Telemetry}
@@ -7,7 +7,6 @@ use Rattle.trial.specs.declared.Generator.{Generator}
 use Rattle.trial.specs.declared.NextFrame.{NextFrame}
 use Rattle.trial.specs.Draws.{next, drawn, draws_of, stamp_of, flag_of, fix_of, landed_of, byte_of, float_of}
 use Rattle.types.specs.declared.Stamped.{Stamped}
-use Rattle.types.specs.declared.LandedState.{LandedState}
 use Rattle.types.specs.declared.PositionSample.{PositionSample}
 use Rattle.types.specs.declared.GpsSample.{GpsSample}
 
@@ -36,23 +35,19 @@ gps_of now d =
     None
 
 -- a reading of one value, from the draws of its flag and of its stamp
-abbrev pub stamped_of : {A : Type 0} → ℕ → ℕ → ℕ → A → Option (Stamped A)
-stamped_of now flag stamp value = cond (flag_of flag) (Some (record { t_ms = stamp_of now stamp; value = value })) None
-
-unfoldable pub stamped_f32_of : ℕ → List ℕ → ℕ → Option (Stamped Float)
-stamped_f32_of now d i = stamped_of now (at d i) (at d (i + 1)) (float_of (at d (i + 2)))
+abbrev pub stamped_of : {A : Type 0} → ℕ → List ℕ → ℕ → A → Option (Stamped A)
+stamped_of now d i value = cond (flag_of (at d i)) (Some (record { t_ms = stamp_of now (at d (i + 1)); value = value })) None
 
 unfoldable pub battery_of : ℕ → List ℕ → BatteryInputs
-battery_of now d = record { voltage_v = stamped_f32_of now d 15; percent = stamped_f32_of now d 18; remaining_wh = stamped_f32_of now d 21 }
+battery_of now d =
+    record {
+      voltage_v = stamped_of now d 15 (float_of (at d 17));
+      percent = stamped_of now d 18 (float_of (at d 20));
+      remaining_wh = stamped_of now d 21 (float_of (at d 23));
+    }
 
 unfoldable pub heartbeat_of : ℕ → List ℕ → Option ℕ
 heartbeat_of now d = cond (flag_of (at d 24)) (Some (stamp_of now (at d 25))) None
-
-unfoldable pub stamped_bool_of : ℕ → List ℕ → ℕ → Option (Stamped Bool)
-stamped_bool_of now d i = stamped_of now (at d i) (at d (i + 1)) (flag_of (at d (i + 2)))
-
-unfoldable pub stamped_landed_of : ℕ → List ℕ → Option (Stamped LandedState)
-stamped_landed_of now d = stamped_of now (at d 29) (at d 30) (landed_of (at d 31))
 
 -- "Each other field takes one draw in declared order": 38 of them
 unfoldable pub telemetry_of : ℕ → List ℕ → Telemetry
@@ -63,10 +58,10 @@ telemetry_of now d =
       gps = gps_of now d;
       battery = battery_of now d;
       gcs_heartbeat_ms = heartbeat_of now d;
-      armed = stamped_bool_of now d 26;
-      landed = stamped_landed_of now d;
-      rc_ok = stamped_bool_of now d 32;
-      ekf_ok = stamped_bool_of now d 35;
+      armed = stamped_of now d 26 (flag_of (at d 28));
+      landed = stamped_of now d 29 (landed_of (at d 31));
+      rc_ok = stamped_of now d 32 (flag_of (at d 34));
+      ekf_ok = stamped_of now d 35 (flag_of (at d 37));
     }
 
 -- "now_ms is 0 in the first frame, without a draw; in each later frame it grows, wrapping, by one draw div 2^22"

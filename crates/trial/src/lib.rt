@@ -1,17 +1,19 @@
 // A test load that everyone can make: telemetry frames from a seed, one a call.
-#![tactic(auto, unfolding(crate::specs::Draws::next, crate::specs::Draws::stamp_of, crate::specs::Draws::flag_of, crate::specs::Draws::case_of, crate::specs::Draws::fix_of, crate::specs::Draws::landed_of, crate::specs::Draws::byte_of, crate::specs::Draws::float_of, crate::specs::Trial::vec3_of, crate::specs::Trial::position_of, crate::specs::Trial::sats_of, crate::specs::Trial::hdop_of, crate::specs::Trial::gps_of, crate::specs::Trial::stamped_f32_of, crate::specs::Trial::battery_of, crate::specs::Trial::heartbeat_of, crate::specs::Trial::stamped_bool_of, crate::specs::Trial::stamped_landed_of, crate::specs::Trial::telemetry_of, crate::specs::Trial::now_of, crate::specs::Trial::fields_from, crate::specs::Trial::next_frame, crate::specs::Call::generator_at, crate::specs::Call::generator_fault, crate::specs::Call::room_for, crate::specs::Decimal::with_digit, crate::specs::Decimal::read_decimal))]
+#![tactic(auto, unfolding(crate::specs::Draws::next, crate::specs::Draws::stamp_of, crate::specs::Draws::flag_of, crate::specs::Draws::case_of, crate::specs::Draws::fix_of, crate::specs::Draws::landed_of, crate::specs::Draws::byte_of, crate::specs::Draws::float_of, crate::specs::Trial::vec3_of, crate::specs::Trial::position_of, crate::specs::Trial::sats_of, crate::specs::Trial::hdop_of, crate::specs::Trial::gps_of, crate::specs::Trial::battery_of, crate::specs::Trial::heartbeat_of, crate::specs::Trial::telemetry_of, crate::specs::Trial::now_of, crate::specs::Trial::fields_from, crate::specs::Trial::next_frame, crate::specs::Call::generator_at, crate::specs::Call::read_generator, crate::specs::Call::trial_call, crate::specs::Call::room_for, crate::specs::Decimal::with_digit, crate::specs::Decimal::read_decimal))]
 
 ghost use Rattle.std.specs.Prelude.{◌≡◌, ◌+◌, ◌*◌, ◌≤◌, ◌++◌, length, take, drop};
 ghost use Rattle.std.proofs.lemmas.List.Edits.{sets};
+ghost use Rattle.wire.specs.Frame.{frame_number};
 ghost use Rattle.trial.specs.Draws.{next, draws_of, stamp_of, flag_of, fix_of, landed_of, byte_of, float_of};
-ghost use Rattle.trial.specs.Trial.{stamped_of, vec3_of, position_of, sats_of, hdop_of, gps_of, stamped_f32_of, battery_of, heartbeat_of, stamped_bool_of, stamped_landed_of, telemetry_of, now_of, fields_from, next_frame};
-ghost use Rattle.trial.specs.Call.{generator_at, generator_bytes, generator_fault, trial_call, first_of, onward, frames_of, room_for};
+ghost use Rattle.trial.specs.Trial.{stamped_of, vec3_of, position_of, sats_of, hdop_of, gps_of, battery_of, heartbeat_of, telemetry_of, now_of, fields_from, next_frame};
+ghost use Rattle.trial.specs.Call.{generator_at, generator_bytes, read_generator, trial_call, first_of, onward, frames_of, room_for};
 ghost use Rattle.trial.specs.Decimal.{with_digit, read_decimal};
 ghost use Rattle.frame_telemetry.specs.TelemetryFrame.{telemetry_frame};
 
 use types::{
     BatteryInputs, GpsFix, GpsSample, LandedState, PositionSample, Stamped, Telemetry, Vec3,
 };
+use wire::FrameError;
 
 // `begun`: whether a frame was made.
 #[derive(Clone, Copy)]
@@ -61,6 +63,7 @@ fn flag_of(draw: u32) -> bool
     draw / 2147483648 == 1
 }
 
+// The two enums have a draw each: one function over both would need laws for `TryFrom<u8>`, and no fewer lines.
 fn fix_of(draw: u32) -> GpsFix
     ensures { result ≡ fix_of draw }
 {
@@ -98,6 +101,7 @@ fn vec3_of(d: &[u32; 38], at: usize) -> Vec3
     }
 }
 
+// The readings differ in their records; what they share is `stamp_of` and `then_some`.
 fn position_of(now_ms: u32, d: &[u32; 38]) -> Option<PositionSample>
     ensures { result ≡ position_of now_ms d.now }
 {
@@ -134,27 +138,21 @@ fn gps_of(now_ms: u32, d: &[u32; 38]) -> Option<GpsSample>
 }
 
 // A reading of one value, from the draws of its flag and of its stamp.
-fn stamped_of<T: Copy>(now_ms: u32, flag: u32, stamp: u32, value: T) -> Option<Stamped<T>>
-    ensures { result ≡ stamped_of now_ms flag stamp value }
+fn stamped_of<T: Copy>(now_ms: u32, d: &[u32; 38], at: usize, value: T) -> Option<Stamped<T>>
+    requires { at + 2 ≤ 38 }
+    ensures { result ≡ stamped_of now_ms d.now at value }
 {
-    let t_ms = stamp_of(now_ms, stamp);
-    flag_of(flag).then_some(Stamped { t_ms, value })
-}
-
-fn stamped_f32_of(now_ms: u32, d: &[u32; 38], at: usize) -> Option<Stamped<f32>>
-    requires { at + 3 ≤ 38 }
-    ensures { result ≡ stamped_f32_of now_ms d.now at }
-{
-    stamped_of(now_ms, d[at], d[at + 1], float_of(d[at + 2]))
+    let t_ms = stamp_of(now_ms, d[at + 1]);
+    flag_of(d[at]).then_some(Stamped { t_ms, value })
 }
 
 fn battery_of(now_ms: u32, d: &[u32; 38]) -> BatteryInputs
     ensures { result ≡ battery_of now_ms d.now }
 {
     BatteryInputs {
-        voltage_v: stamped_f32_of(now_ms, d, 15),
-        percent: stamped_f32_of(now_ms, d, 18),
-        remaining_wh: stamped_f32_of(now_ms, d, 21),
+        voltage_v: stamped_of(now_ms, d, 15, float_of(d[17])),
+        percent: stamped_of(now_ms, d, 18, float_of(d[20])),
+        remaining_wh: stamped_of(now_ms, d, 21, float_of(d[23])),
     }
 }
 
@@ -162,19 +160,6 @@ fn heartbeat_of(now_ms: u32, d: &[u32; 38]) -> Option<u32>
     ensures { result ≡ heartbeat_of now_ms d.now }
 {
     flag_of(d[24]).then_some(stamp_of(now_ms, d[25]))
-}
-
-fn stamped_bool_of(now_ms: u32, d: &[u32; 38], at: usize) -> Option<Stamped<bool>>
-    requires { at + 3 ≤ 38 }
-    ensures { result ≡ stamped_bool_of now_ms d.now at }
-{
-    stamped_of(now_ms, d[at], d[at + 1], flag_of(d[at + 2]))
-}
-
-fn stamped_landed_of(now_ms: u32, d: &[u32; 38]) -> Option<Stamped<LandedState>>
-    ensures { result ≡ stamped_landed_of now_ms d.now }
-{
-    stamped_of(now_ms, d[29], d[30], landed_of(d[31]))
 }
 
 fn telemetry_of(now_ms: u32, d: &[u32; 38]) -> Telemetry
@@ -186,10 +171,10 @@ fn telemetry_of(now_ms: u32, d: &[u32; 38]) -> Telemetry
         gps: gps_of(now_ms, d),
         battery: battery_of(now_ms, d),
         gcs_heartbeat_ms: heartbeat_of(now_ms, d),
-        armed: stamped_bool_of(now_ms, d, 26),
-        landed: stamped_landed_of(now_ms, d),
-        rc_ok: stamped_bool_of(now_ms, d, 32),
-        ekf_ok: stamped_bool_of(now_ms, d, 35),
+        armed: stamped_of(now_ms, d, 26, flag_of(d[28])),
+        landed: stamped_of(now_ms, d, 29, landed_of(d[31])),
+        rc_ok: stamped_of(now_ms, d, 32, flag_of(d[34])),
+        ekf_ok: stamped_of(now_ms, d, 35, flag_of(d[37])),
     }
 }
 
@@ -227,7 +212,7 @@ pub fn next_frame(g: Generator) -> NextFrame
     }
 }
 
-pub fn generator_at(s: &[u8]) -> Generator
+fn generator_at(s: &[u8]) -> Generator
     ensures { result ≡ generator_at s.now }
 {
     Generator {
@@ -237,17 +222,19 @@ pub fn generator_at(s: &[u8]) -> Generator
     }
 }
 
-// The refusal number that a generator's slice earns, 0 for none.
-pub fn generator_fault(s: &[u8]) -> u32
-    ensures { result ≡ generator_fault s.now }
+pub fn read_generator(s: &[u8]) -> Result<Generator, FrameError>
+    ensures { result ≡ read_generator s.now }
 {
     if s.len() < 9 {
-        return 1;
+        return Err(FrameError::Incomplete);
     }
     if s.len() > 9 {
-        return 3;
+        return Err(FrameError::WrongLength);
     }
-    if wire::byte_below(s, 8, 2) { 0 } else { 4 }
+    if !wire::byte_below(s, 8, 2) {
+        return Err(FrameError::OutOfRange);
+    }
+    Ok(generator_at(s))
 }
 
 fn put_generator(s: &mut [u8], g: Generator)
@@ -258,23 +245,19 @@ fn put_generator(s: &mut [u8], g: Generator)
     wire::put_flag(s, 8, g.begun);
 }
 
-// 0 with the next frame in the first 106 bytes of the output, or a refusal with nothing drawn or written.
-pub fn trial(generator: &mut [u8], output: &mut [u8]) -> u32
-    ensures value { result ≡ (trial_call generator.old output.old).number }
+// The next frame in the first 106 bytes of the output, or a refusal with nothing drawn or written.
+pub fn trial(generator: &mut [u8], output: &mut [u8]) -> Result<(), FrameError>
+    ensures value { frame_number result ≡ (trial_call generator.old output.old).number }
     ensures generator_after { generator.new ≡ (trial_call generator.old output.old).generator }
     ensures output_after { output.new ≡ (trial_call generator.old output.old).output }
 {
-    let fault = generator_fault(generator);
-    if fault != 0 {
-        return fault;
-    }
+    let g = read_generator(generator)?;
     if output.len() < 106 {
-        return 5;
+        return Err(FrameError::NoRoom);
     }
-    let next = next_frame(generator_at(generator));
+    let next = next_frame(g);
     put_generator(generator, next.generator);
-    frame_telemetry::write_telemetry(output, next.telemetry);
-    0
+    frame_telemetry::write_telemetry(output, next.telemetry)
 }
 
 // ---- frames in a row
@@ -296,7 +279,8 @@ fn put_next(g: Generator, block: &mut [u8], at: usize) -> Generator
     ensures block_after { block.new ≡ take at block.old ++ (telemetry_frame (next_frame g).telemetry ++ drop (at + 106) block.old) }
 {
     let next = next_frame(g);
-    frame_telemetry::write_telemetry(&mut block[at..], next.telemetry);
+    // the block has room
+    let _ = frame_telemetry::write_telemetry(&mut block[at..], next.telemetry);
     next.generator
 }
 

@@ -1,6 +1,7 @@
 -- Every frame made is accepted by the telemetry reader: each draw's rule keeps within its field's type, and the frame's round trip does the rest. Assumes nothing.
-use Rattle.std.specs.Prelude.{Some, None, unwrap_or}
-use Prim.Native.Nat.{ℕ, zero, suc, ◌+◌, ◌/◌, ◌%◌, ◌^◌, ◌≤◌, ◌<◌}
+use Rattle.wire.proofs.Head.{no_error_zero, room}
+use Rattle.std.specs.Prelude.{Some, None, unwrap_or, Result, Ok, Err}
+use Prim.Native.Nat.{ℕ, ◌+◌, ◌/◌, ◌%◌, ◌^◌, ◌≤◌, ◌<◌}
 use mathlib.Core.Path.{◌≡◌, refl, ap, sym, ◌∙◌}
 use mathlib.Core.Bool.{Bool, true, false, cond}
 use mathlib.Core.List.{List, [], ◌∷◌, ◌++◌}
@@ -22,18 +23,18 @@ use Rattle.wire.specs.Fields.{u8_at, number_at, u32_at, flag_at, byte_below, le8
 use Rattle.wire.specs.Cell.{Within}
 use Rattle.wire.proofs.Fields.{u32_back, flag_back}
 use Rattle.options.specs.Position.{position_cells}
-use Rattle.frame_telemetry.specs.declared.TelemetryRead.{TelemetryRead}
 use Rattle.frame_telemetry.specs.Readings.{gps_cells, stamped_f32_cells, stamped_bool_cells, stamped_landed_cells}
 use Rattle.frame_telemetry.specs.TelemetryFrame.{read_telemetry, battery_cells, status_cells, telemetry_cells, telemetry_frame}
 use Rattle.frame_telemetry.proofs.Size.{size}
 use Rattle.frame_telemetry_trips.proofs.Readings.{fix_valid, landed_valid_lem}
 use Rattle.frame_telemetry_trips.proofs.Trips.{within_joined, value_back}
 use Rattle.trial.specs.declared.Generator.{Generator}
+use Rattle.wire.specs.declared.FrameError.{FrameError}
 use Rattle.trial.specs.Draws.{next, drawn, draws_of, stamp_of, flag_of, fix_of, landed_of, byte_of, float_of, middle, eight}
-use Rattle.trial.specs.Trial.{at, vec3_of, position_of, sats_of, hdop_of, gps_of, stamped_f32_of, battery_of, heartbeat_of, stamped_bool_of, stamped_landed_of, telemetry_of, now_of, fields_from, next_frame}
-use Rattle.trial.specs.Call.{generator_at, generator_bytes, generator_fault, TrialCall, trial_call, first_of, onward}
+use Rattle.trial.specs.Trial.{at, vec3_of, position_of, sats_of, hdop_of, gps_of, stamped_of, battery_of, heartbeat_of, telemetry_of, now_of, fields_from, next_frame}
+use Rattle.trial.specs.Call.{generator_at, generator_bytes, read_generator, TrialCall, trial_call, first_of, onward}
 use Rattle.trial_accepted.specs.Accepted.{seeded, generator_after, EachRoom, FramesAccepted}
-use Rattle.trial.proofs.Calls.{refused, no_room, makes}
+use Rattle.trial.proofs.Calls.{no_room, makes, read_is}
 
 -- ---- each draw's rule
 
@@ -99,12 +100,11 @@ module _ (now : ℕ) (d : List ℕ) where
       go true = (stamp_within now (at d 9), (fix_within (fix_of (at d 10)), (sats_within h, (hdop_fits, tt))))
       go false = (lit< tt, (lit< tt, (lit< tt, (of_bits-fits binary32 0, tt))))
 
-  stamped_f32_within : (i : ℕ) → Within (stamped_f32_cells (stamped_f32_of now d i))
-  unfolding stamped_f32_of
-  stamped_f32_within i = go (flag_of (at d i))
+  stamped_f32_within : (i draw : ℕ) → Within (stamped_f32_cells (stamped_of now d i (float_of draw)))
+  stamped_f32_within i draw = go (flag_of (at d i))
     where
-      go : (b : Bool) → Within (stamped_f32_cells (cond b (Some (record { t_ms = stamp_of now (at d (i + 1)); value = float_of (at d (i + 2)) })) None))
-      go true = (stamp_within now (at d (i + 1)), (float_fits (at d (i + 2)), tt))
+      go : (b : Bool) → Within (stamped_f32_cells (cond b (Some (record { t_ms = stamp_of now (at d (i + 1)); value = float_of draw })) None))
+      go true = (stamp_within now (at d (i + 1)), (float_fits draw, tt))
       go false = (lit< tt, (of_bits-fits binary32 0, tt))
 
   heartbeat_within : unwrap_or (heartbeat_of now d) 0 < 2 ^ 32
@@ -115,34 +115,32 @@ module _ (now : ℕ) (d : List ℕ) where
       go true = stamp_within now (at d 25)
       go false = lit< tt
 
-  stamped_bool_within : (i : ℕ) → Within (stamped_bool_cells (stamped_bool_of now d i))
-  unfolding stamped_bool_of
-  stamped_bool_within i = go (flag_of (at d i))
+  stamped_bool_within : (i draw : ℕ) → Within (stamped_bool_cells (stamped_of now d i (flag_of draw)))
+  stamped_bool_within i draw = go (flag_of (at d i))
     where
-      go : (b : Bool) → Within (stamped_bool_cells (cond b (Some (record { t_ms = stamp_of now (at d (i + 1)); value = flag_of (at d (i + 2)) })) None))
+      go : (b : Bool) → Within (stamped_bool_cells (cond b (Some (record { t_ms = stamp_of now (at d (i + 1)); value = flag_of draw })) None))
       go true = (stamp_within now (at d (i + 1)), tt)
       go false = (lit< tt, tt)
 
-  stamped_landed_within : Within (stamped_landed_cells (stamped_landed_of now d))
-  unfolding stamped_landed_of
-  stamped_landed_within = go (flag_of (at d 29))
+  stamped_landed_within : (i draw : ℕ) → Within (stamped_landed_cells (stamped_of now d i (landed_of draw)))
+  stamped_landed_within i draw = go (flag_of (at d i))
     where
-      go : (b : Bool) → Within (stamped_landed_cells (cond b (Some (record { t_ms = stamp_of now (at d 30); value = landed_of (at d 31) })) None))
-      go true = (stamp_within now (at d 30), (landed_within (landed_of (at d 31)), tt))
+      go : (b : Bool) → Within (stamped_landed_cells (cond b (Some (record { t_ms = stamp_of now (at d (i + 1)); value = landed_of draw })) None))
+      go true = (stamp_within now (at d (i + 1)), (landed_within (landed_of draw), tt))
       go false = (lit< tt, (lit< tt, tt))
 
   battery_within : Within (battery_cells (battery_of now d))
   unfolding battery_cells battery_of
   battery_within =
-      let v = stamped_f32_within 15 in
-      let p = stamped_f32_within 18 in (v.0, (v.1.0, (p.0, (p.1.0, stamped_f32_within 21))))
+      let v = stamped_f32_within 15 (at d 17) in
+      let p = stamped_f32_within 18 (at d 20) in (v.0, (v.1.0, (p.0, (p.1.0, stamped_f32_within 21 (at d 23)))))
 
   status_within : Within (status_cells (telemetry_of now d))
   unfolding status_cells telemetry_of
   status_within =
-      let a = stamped_bool_within 26 in
-      let l = stamped_landed_within in
-      let r = stamped_bool_within 32 in (heartbeat_within, (a.0, (l.0, (l.1.0, (r.0, stamped_bool_within 35)))))
+      let a = stamped_bool_within 26 (at d 28) in
+      let l = stamped_landed_within 29 (at d 31) in
+      let r = stamped_bool_within 32 (at d 34) in (heartbeat_within, (a.0, (l.0, (l.1.0, (r.0, stamped_bool_within 35 (at d 37))))))
 
   telemetry_within : now < 2 ^ 32 → at d 12 < 2 ^ 32 → Within (telemetry_cells (telemetry_of now d))
   unfolding telemetry_cells telemetry_of
@@ -168,7 +166,7 @@ sats_draw : (x : ℕ) → at (draws_of 38 x) 12 < 2 ^ 32
 unfolding draws_of drawn
 sats_draw x = next_within (drawn 12 x)
 
-pub frame_accepted : (g : Generator) → read_telemetry (telemetry_frame (next_frame g).telemetry) ≡ TelemetryRead.Frame (next_frame g).telemetry
+pub frame_accepted : (g : Generator) → read_telemetry (telemetry_frame (next_frame g).telemetry) ≡ Ok (next_frame g).telemetry
 unfolding next_frame
 frame_accepted g =
     let d = draws_of 38 (fields_from g) in value_back (telemetry_of (now_of g) d) (telemetry_within (now_of g) d (now_within g) (sats_draw (fields_from g)))
@@ -176,10 +174,6 @@ frame_accepted g =
 -- ---- calls
 
 -- the case of a call, by what it is told
-fault_or_not : (n : ℕ) → (n ≡ 0) ⊎ (n ≡ 0 → ⊥)
-fault_or_not zero = inl refl
-fault_or_not (suc n) = inr (λ e. omega arith)
-
 room_or_not : (o : List ℕ) → (length o < 106) ⊎ (106 ≤ length o)
 room_or_not o = go (ltb (length o) 106) refl
   where
@@ -187,38 +181,45 @@ room_or_not o = go (ltb (length o) 106) refl
     go true e = inl (ltb-true (length o) 106 e)
     go false e = inr (ltb-false (length o) 106 e)
 
-made_accepted : (g o : List ℕ) → generator_fault g ≡ 0 → 106 ≤ length o → read_telemetry (take 106 (trial_call g o).output) ≡ TelemetryRead.Frame (next_frame (generator_at g)).telemetry
-made_accepted g o e h =
-    let t = (next_frame (generator_at g)).telemetry in
+made_accepted : {x : Generator} (g o : List ℕ) → read_generator g ≡ Ok x → 106 ≤ length o → read_telemetry (take 106 (trial_call g o).output) ≡ Ok (next_frame x).telemetry
+made_accepted {x} g o e h =
+    let t = (next_frame x).telemetry in
     ap (λ (r : TrialCall). read_telemetry (take 106 r.output)) (makes g o e h)
     ∙ ap read_telemetry (take_at (telemetry_frame t) (drop 106 o) 106 (size t))
-    ∙ frame_accepted (generator_at g)
+    ∙ frame_accepted x
 
-one_call : (g o : List ℕ) → (trial_call g o).number ≡ 0 → read_telemetry (take 106 (trial_call g o).output) ≡ TelemetryRead.Frame (next_frame (generator_at g)).telemetry
-one_call g o z =
-    ⊎_elim
-    (λ e.
-    ⊎_elim (λ h. absurd (omega (arith, ap (λ (r : TrialCall). r.number) (no_room g o e h)))) (λ h. made_accepted g o e h) (room_or_not o))
-    (λ n. absurd (n (sym (ap (λ (r : TrialCall). r.number) (refused g o n)) ∙ z)))
-    (fault_or_not (generator_fault g))
+one_call : (g o : List ℕ) → (trial_call g o).number ≡ 0 → read_telemetry (take 106 (trial_call g o).output) ≡ Ok (next_frame (generator_at g)).telemetry
+unfolding trial_call
+one_call g o z = go (read_generator g) refl
+  where
+    go : (r : Result Generator FrameError) → read_generator g ≡ r → read_telemetry (take 106 (trial_call g o).output) ≡ Ok (next_frame (generator_at g)).telemetry
+    go (Ok x) e =
+        ⊎_elim
+        (λ h. absurd (omega (arith, z, ap (λ (r : TrialCall). r.number) (no_room g o e h))))
+        (λ h. made_accepted g o e h ∙ ap (λ (k : Generator). Ok (next_frame k).telemetry) (sym (read_is g e).1))
+        (room_or_not o)
+    go (Err r) e = absurd (no_error_zero r (sym (rw e refl) ∙ z))
 
--- what a call leaves earns no refusal
-seeded_sound : (seed : ℕ) → generator_fault (seeded seed) ≡ 0
-unfolding generator_fault seeded u8_at byte_below le_bytes le32
+-- what a call leaves is read
+moved : {s t : List ℕ} → s ≡ t → read_generator t ≡ Ok (generator_at t) → read_generator s ≡ Ok (generator_at s)
+moved {s} {t} e h = (λ j. read_generator (e j)) ∙ h ∙ (λ j. Ok (generator_at (sym e j)))
+
+seeded_sound : (seed : ℕ) → read_generator (seeded seed) ≡ Ok (generator_at (seeded seed))
+unfolding read_generator seeded u8_at byte_below le_bytes le32
 seeded_sound seed = refl
 
-left_sound : (g : Generator) → generator_fault (generator_bytes (next_frame g).generator) ≡ 0
-unfolding generator_fault generator_bytes next_frame u8_at byte_below le_bytes le32 le_flag
+left_sound : (g : Generator) → read_generator (generator_bytes (next_frame g).generator) ≡ Ok (generator_at (generator_bytes (next_frame g).generator))
+unfolding read_generator generator_bytes next_frame u8_at byte_below le_bytes le32 le_flag
 left_sound g = refl
 
-after_sound : (seed : ℕ) (outputs : List (List ℕ)) → generator_fault (generator_after seed outputs) ≡ 0
+after_sound : (seed : ℕ) (outputs : List (List ℕ)) → read_generator (generator_after seed outputs) ≡ Ok (generator_at (generator_after seed outputs))
 unfolding generator_after
 after_sound seed [] = seeded_sound seed
 after_sound seed (o ∷ os) =
     let g = generator_after seed os in
     let e = after_sound seed os in
-    ⊎_elim (λ h. ap (λ (r : TrialCall). generator_fault r.generator) (no_room g o e h) ∙ e)
-    (λ h. ap (λ (r : TrialCall). generator_fault r.generator) (makes g o e h) ∙ left_sound (generator_at g))
+    ⊎_elim (λ h. moved (ap (λ (r : TrialCall). r.generator) (no_room g o e h)) e)
+    (λ h. moved (ap (λ (r : TrialCall). r.generator) (makes g o e h)) (left_sound (generator_at g)))
     (room_or_not o)
 
 answered : (seed : ℕ) (outputs : List (List ℕ)) (output : List ℕ) → 106 ≤ length output → (trial_call (generator_after seed outputs) output).number ≡ 0

@@ -1,7 +1,6 @@
 -- "Every frame made is shown to be accepted by the telemetry reader." Assumes nothing.
-use Rattle.std.specs.Prelude.{ℕ, ◌^◌, ◌<◌, ◌≤◌, ◌≡◌, List, [], ◌∷◌, ◌++◌, length, take, replicate}
+use Rattle.std.specs.Prelude.{ℕ, ◌^◌, ◌<◌, ◌≤◌, ◌≡◌, List, [], ◌∷◌, ◌++◌, length, take, replicate, Ok}
 use Rattle.wire.specs.Fields.{le32}
-use Rattle.frame_telemetry.specs.declared.TelemetryRead.{TelemetryRead}
 use Rattle.frame_telemetry.specs.TelemetryFrame.{read_telemetry}
 use Rattle.trial.specs.Trial.{next_frame}
 use Rattle.trial.specs.Call.{generator_at, trial_call, first_of, onward}
@@ -25,7 +24,7 @@ pub record FramesAccepted : Type 0 where
   -- of any call that answers 0, whatever the generator
   pub one_call :
       (generator output : List ℕ) → (trial_call generator output).number ≡ 0 →
-      read_telemetry (take 106 (trial_call generator output).output) ≡ TelemetryRead.Frame (next_frame (generator_at generator)).telemetry
+      read_telemetry (take 106 (trial_call generator output).output) ≡ Ok (next_frame (generator_at generator)).telemetry
   -- after any calls from any seed, a call with room answers 0
   pub answered : (seed : ℕ) (outputs : List (List ℕ)) (output : List ℕ) → 106 ≤ length output → (trial_call (generator_after seed outputs) output).number ≡ 0
   -- and its frame is the one that the generator is due to make

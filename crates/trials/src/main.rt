@@ -40,7 +40,7 @@ fn write_frames<P: Print>(rt: &P, seed: u32, count: u32) {
     let mut block = [0; 65508];
     let mut g = trial::seeded(seed);
     let mut left = count as usize;
-    while left > 0 {
+    for _ in 0..left.div_ceil(BLOCK_FRAMES) {
         let n = left.min(BLOCK_FRAMES);
         g = trial::fill(g, n, &mut block);
         if rt.write_all(&block[..106 * n]).is_err() {

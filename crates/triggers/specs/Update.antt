@@ -1,10 +1,10 @@
 -- Document 01, 'triggers': a whole step of the triggers. Assumes nothing.
-use Rattle.std.specs.Prelude.{Bool, true, false, cond, Float, Option, Some, None}
+use Rattle.std.specs.Prelude.{Bool, true, false, cond, Float, Option}
 use Rattle.types.specs.declared.Action.{Action}
 use Rattle.types.specs.declared.Reason.{Reason}
 use Rattle.types.specs.declared.ActiveSet.{ActiveSet}
 use Rattle.types.specs.declared.Telemetry.{Telemetry}
-use Rattle.types.specs.ActiveSet.{empty_set, set_request}
+use Rattle.types.specs.ActiveSet.{empty_set, set_request, set_if, set_option}
 use Rattle.time.specs.Time.{Clock}
 use Rattle.config.specs.declared.Config.{Config}
 use Rattle.validate.specs.Fresh.{fresh_true, fresh_landed, fresh_battery_percent, fresh_voltage}
@@ -123,13 +123,6 @@ families clock s t cfg min_alt max_alt place margin invalid =
       battery = battery clock s now percent volts cfg;
       energy = energy clock s now margin cfg;
     }
-
-abbrev pub set_if : ActiveSet → Bool → Reason → Action → ActiveSet
-set_if s on r a = cond on (set_request s r a) s
-
-abbrev pub set_option : ActiveSet → Reason → Option Action → ActiveSet
-set_option s r None = s
-set_option s r (Some a) = set_request s r a
 
 -- document 02, L11: "GpsDegraded, GpsLost, EkfUnhealthy, FenceBreach, AltitudeMin, BatteryWarn, BatteryLow and EnergyRtlMarginal", each by its pair of timers;
 -- `keeps` is whether the configuration is of kind 11

@@ -4,7 +4,7 @@
 ghost use Rattle.std.specs.Prelude.{◌≡◌};
 ghost use Rattle.time.specs.Time.{wrapping};
 ghost use Rattle.triggers.specs.Families.{invalid_input, gcs_age, stage_request, gcs_clearing, gcs_stage, gcs_link, rc_link, few_sats, many_sats, poor_hdop, good_hdop, degraded, recovered, fixed, gps, ekf, fence_approach, fence_breach, altitude_max, in_air, altitude_min, fence, stale_battery, low_voltage, battery_warn, battery_low, battery_critical, battery, energy_marginal, energy};
-ghost use Rattle.triggers.specs.Update.{fresh_triggers, without_gcs_timer, families, none_raised, raised_of, kept_raised, rc_lost, set_if, set_option, link_requests, fence_requests, battery_requests, requests, next_triggers, update};
+ghost use Rattle.triggers.specs.Update.{without_gcs_timer, families, none_raised, raised_of, kept_raised, rc_lost, link_requests, fence_requests, battery_requests, requests, next_triggers, update};
 
 use config::Config;
 use geometry::FenceDistance;
@@ -19,19 +19,21 @@ pub struct InvalidInput {
     pub clear: Timer,
 }
 
-fn invalid_input(active: bool, clear: Timer, now: u32, invalid: bool, clear_ms: u32) -> InvalidInput
-    ensures { result ≡ invalid_input wrapping active clear now invalid clear_ms }
-{
-    if invalid {
-        InvalidInput {
-            active: true,
-            clear: Timer::clear(),
-        }
-    } else {
-        let h = clear.held_set(now, true, clear_ms);
-        InvalidInput {
-            active: active & !h.met,
-            clear: h.timer,
+impl TriggerState {
+    fn invalid_input(&self, now: u32, invalid: bool, clear_ms: u32) -> InvalidInput
+        ensures { result ≡ invalid_input wrapping self.now.invalid_active self.now.invalid_clear now invalid clear_ms }
+    {
+        if invalid {
+            InvalidInput {
+                active: true,
+                clear: Timer::clear(),
+            }
+        } else {
+            let h = self.invalid_clear.held_set(now, true, clear_ms);
+            InvalidInput {
+                active: self.invalid_active & !h.met,
+                clear: h.timer,
+            }
         }
     }
 }
@@ -65,22 +67,6 @@ fn stage_request(stage: u8) -> Option<Action>
     }
 }
 
-// While the link is good again, what its stage asked for stays until the clear timer is met.
-fn gcs_clearing(timer: Timer, stage: u8, now: u32, clear_hold_ms: u32) -> GcsLink
-    ensures { result ≡ gcs_clearing wrapping timer stage now clear_hold_ms }
-{
-    let h = timer.held_set(now, true, clear_hold_ms);
-    if h.met {
-        GcsLink {
-            clear_timer: h.timer,
-            stage: 0,
-            request: None,
-        }
-    } else {
-        gcs_stage(h.timer, stage)
-    }
-}
-
 fn gcs_stage(timer: Timer, stage: u8) -> GcsLink
     ensures { result ≡ gcs_stage timer stage }
 {
@@ -91,26 +77,44 @@ fn gcs_stage(timer: Timer, stage: u8) -> GcsLink
     }
 }
 
-fn gcs_link(timer: Timer, stage: u8, now: u32, heartbeat: Option<u32>, cfg: &Config) -> GcsLink
-    ensures { result ≡ gcs_link wrapping timer stage now heartbeat cfg.now }
-{
-    let age = gcs_age(now, heartbeat);
-    if cfg.gcs_rtl_ms < age {
-        return gcs_stage(timer, 3);
+impl TriggerState {
+    // While the link is good again, what its stage asked for stays until the clear timer is met.
+    fn gcs_clearing(&self, now: u32, clear_hold_ms: u32) -> GcsLink
+        ensures { result ≡ gcs_clearing wrapping self.now.gcs_clear_timer self.now.gcs_stage now clear_hold_ms }
+    {
+        let h = self.gcs_clear_timer.held_set(now, true, clear_hold_ms);
+        if h.met {
+            GcsLink {
+                clear_timer: h.timer,
+                stage: 0,
+                request: None,
+            }
+        } else {
+            gcs_stage(h.timer, self.gcs_stage)
+        }
     }
-    if cfg.gcs_hold_ms < age {
-        return gcs_stage(timer, 2);
-    }
-    if cfg.gcs_warn_ms < age {
-        return gcs_stage(timer, 1);
-    }
-    if age <= cfg.gcs_clear_ms {
-        return gcs_clearing(timer, stage, now, cfg.gcs_clear_hold_ms);
-    }
-    GcsLink {
-        clear_timer: Timer::clear(),
-        stage,
-        request: None,
+
+    fn gcs_link(&self, now: u32, heartbeat: Option<u32>, cfg: &Config) -> GcsLink
+        ensures { result ≡ gcs_link wrapping self.now.gcs_clear_timer self.now.gcs_stage now heartbeat cfg.now }
+    {
+        let age = gcs_age(now, heartbeat);
+        if cfg.gcs_rtl_ms < age {
+            return gcs_stage(self.gcs_clear_timer, 3);
+        }
+        if cfg.gcs_hold_ms < age {
+            return gcs_stage(self.gcs_clear_timer, 2);
+        }
+        if cfg.gcs_warn_ms < age {
+            return gcs_stage(self.gcs_clear_timer, 1);
+        }
+        if age <= cfg.gcs_clear_ms {
+            return self.gcs_clearing(now, cfg.gcs_clear_hold_ms);
+        }
+        GcsLink {
+            clear_timer: Timer::clear(),
+            stage: self.gcs_stage,
+            request: None,
+        }
     }
 }
 
@@ -125,25 +129,29 @@ pub struct RcLink {
     pub met: bool,
 }
 
-fn rc_link(set: Timer, clear: Timer, now: u32, good: bool, cfg: &Config) -> RcLink
-    ensures { result ≡ rc_link wrapping set clear now good cfg.now }
-{
-    let bad = cfg.rc_required & !good;
-    let s = set.held_set(now, bad, cfg.rc_lost_set_ms);
-    if s.met {
-        return RcLink {
+impl TriggerState {
+    fn rc_link(&self, now: u32, good: bool, cfg: &Config) -> RcLink
+        ensures { result ≡ rc_link wrapping self.now.rc_lost_set self.now.rc_clear_timer now good cfg.now }
+    {
+        let bad = cfg.rc_required & !good;
+        let s = self.rc_lost_set.held_set(now, bad, cfg.rc_lost_set_ms);
+        if s.met {
+            return RcLink {
+                set: s.timer,
+                clear: self.rc_clear_timer,
+                lost: true,
+                met: true,
+            };
+        }
+        let c = self
+            .rc_clear_timer
+            .held_set(now, good, cfg.rc_lost_clear_ms);
+        RcLink {
             set: s.timer,
-            clear,
-            lost: true,
-            met: true,
-        };
-    }
-    let c = clear.held_set(now, good, cfg.rc_lost_clear_ms);
-    RcLink {
-        set: s.timer,
-        clear: c.timer,
-        lost: s.timer.pending() & !c.met,
-        met: false,
+            clear: c.timer,
+            lost: s.timer.pending() & !c.met,
+            met: false,
+        }
     }
 }
 
@@ -197,30 +205,32 @@ fn is_fixed(gps: Option<GpsSample>) -> bool
     gps.is_some_and(|g| g.fix == GpsFix::Fix3D)
 }
 
-fn gps_held(s: &TriggerState, now: u32, sample: Option<GpsSample>, cfg: &Config) -> GpsHeld
-    ensures { result ≡ gps wrapping s.now now sample cfg.now }
-{
-    let gps = validate::fresh_gps(now, sample, cfg.gps_fresh_ms);
-    let fixed = is_fixed(gps);
-    GpsHeld {
-        degraded: timers::hold_pair(
-            s.gps_deg_set,
-            s.gps_deg_clear,
-            now,
-            is_degraded(gps),
-            cfg.gps_degraded_set_ms,
-            is_recovered(gps),
-            cfg.gps_degraded_clear_ms,
-        ),
-        lost: timers::hold_pair(
-            s.gps_lost_set,
-            s.gps_lost_clear,
-            now,
-            !fixed,
-            cfg.gps_lost_set_ms,
-            fixed,
-            cfg.gps_lost_clear_ms,
-        ),
+impl TriggerState {
+    fn gps(&self, now: u32, sample: Option<GpsSample>, cfg: &Config) -> GpsHeld
+        ensures { result ≡ gps wrapping self.now now sample cfg.now }
+    {
+        let gps = validate::fresh_gps(now, sample, cfg.gps_fresh_ms);
+        let fixed = is_fixed(gps);
+        GpsHeld {
+            degraded: timers::hold_pair(
+                self.gps_deg_set,
+                self.gps_deg_clear,
+                now,
+                is_degraded(gps),
+                cfg.gps_degraded_set_ms,
+                is_recovered(gps),
+                cfg.gps_degraded_clear_ms,
+            ),
+            lost: timers::hold_pair(
+                self.gps_lost_set,
+                self.gps_lost_clear,
+                now,
+                !fixed,
+                cfg.gps_lost_set_ms,
+                fixed,
+                cfg.gps_lost_clear_ms,
+            ),
+        }
     }
 }
 
@@ -248,109 +258,100 @@ fn fence_approach(dist: f32, cfg: &Config) -> bool
     (0.0 <= dist) & (dist < cfg.fence_approach_m)
 }
 
-fn fence_breach(set: Timer, clear: Timer, now: u32, dist: f32, cfg: &Config) -> PairHeld
-    ensures { result ≡ fence_breach wrapping set clear now dist cfg.now }
-{
-    let bad = dist < 0.0;
-    let good = cfg.fence_breach_clear_m <= dist;
-    timers::hold_pair(
-        set,
-        clear,
-        now,
-        bad,
-        cfg.fence_breach_set_ms,
-        good,
-        cfg.fence_breach_clear_ms,
-    )
-}
-
-// At or below the limit both timers are cleared.
-fn altitude_max(
-    set: Timer,
-    clear: Timer,
-    now: u32,
-    alt: f32,
-    max_alt_m: f32,
-    cfg: &Config,
-) -> PairHeld
-    ensures { result ≡ altitude_max wrapping set clear now alt max_alt_m cfg.now }
-{
-    if max_alt_m < alt {
-        let good = alt < max_alt_m - cfg.alt_max_clear_m;
-        timers::hold_pair(
-            set,
-            clear,
-            now,
-            true,
-            cfg.alt_max_set_ms,
-            good,
-            cfg.alt_max_clear_hold_ms,
-        )
-    } else {
-        timers::rested(Timer::clear(), Timer::clear())
-    }
-}
-
 fn in_air(landed: Option<LandedState>) -> bool
     ensures { result ≡ in_air landed }
 {
     landed == Some(LandedState::InAir)
 }
 
-fn altitude_min(
-    set: Timer,
-    clear: Timer,
-    now: u32,
-    place: Place,
-    flying: bool,
-    min_alt_m: f32,
-    cfg: &Config,
-) -> PairHeld
-    ensures { result ≡ altitude_min wrapping set clear now place flying min_alt_m cfg.now }
-{
-    let alt = place.alt_m;
-    let home = place.home_dist_m;
-    let bad = (alt < min_alt_m) & (cfg.alt_min_home_radius_m < home) & flying;
-    let good = (min_alt_m + cfg.alt_min_clear_m < alt) | (home <= cfg.alt_min_home_radius_m);
-    timers::hold_pair(
-        set,
-        clear,
-        now,
-        bad,
-        cfg.alt_min_set_ms,
-        good,
-        cfg.alt_min_clear_ms,
-    )
-}
+impl TriggerState {
+    fn fence_breach(&self, now: u32, dist: f32, cfg: &Config) -> PairHeld
+        ensures { result ≡ fence_breach wrapping self.now.fence_breach_set self.now.fence_breach_clear now dist cfg.now }
+    {
+        let bad = dist < 0.0;
+        let good = cfg.fence_breach_clear_m <= dist;
+        timers::hold_pair(
+            self.fence_breach_set,
+            self.fence_breach_clear,
+            now,
+            bad,
+            cfg.fence_breach_set_ms,
+            good,
+            cfg.fence_breach_clear_ms,
+        )
+    }
 
-// Timers rest without a valid position.
-fn fence_held(
-    s: &TriggerState,
-    now: u32,
-    place: Option<Place>,
-    flying: bool,
-    min_alt_m: f32,
-    max_alt_m: f32,
-    cfg: &Config,
-) -> FenceHeld
-    ensures { result ≡ fence wrapping s.now now place flying min_alt_m max_alt_m cfg.now }
-{
-    let (breach_set, breach_clear) = (s.fence_breach_set, s.fence_breach_clear);
-    let (max_set, max_clear) = (s.alt_max_set, s.alt_max_clear);
-    let (min_set, min_clear) = (s.alt_min_set, s.alt_min_clear);
-    match place {
-        Some(p) => FenceHeld {
-            approach: fence_approach(p.fence.m, cfg),
-            breach: fence_breach(breach_set, breach_clear, now, p.fence.m, cfg),
-            alt_max: altitude_max(max_set, max_clear, now, p.alt_m, max_alt_m, cfg),
-            alt_min: altitude_min(min_set, min_clear, now, p, flying, min_alt_m, cfg),
-        },
-        None => FenceHeld {
-            approach: false,
-            breach: timers::rested(breach_set, breach_clear),
-            alt_max: timers::rested(max_set, max_clear),
-            alt_min: timers::rested(min_set, min_clear),
-        },
+    // At or below the limit both timers are cleared.
+    fn altitude_max(&self, now: u32, alt: f32, max_alt_m: f32, cfg: &Config) -> PairHeld
+        ensures { result ≡ altitude_max wrapping self.now.alt_max_set self.now.alt_max_clear now alt max_alt_m cfg.now }
+    {
+        if max_alt_m < alt {
+            let good = alt < max_alt_m - cfg.alt_max_clear_m;
+            timers::hold_pair(
+                self.alt_max_set,
+                self.alt_max_clear,
+                now,
+                true,
+                cfg.alt_max_set_ms,
+                good,
+                cfg.alt_max_clear_hold_ms,
+            )
+        } else {
+            timers::rested(Timer::clear(), Timer::clear())
+        }
+    }
+
+    fn altitude_min(
+        &self,
+        now: u32,
+        place: Place,
+        flying: bool,
+        min_alt_m: f32,
+        cfg: &Config,
+    ) -> PairHeld
+        ensures { result ≡ altitude_min wrapping self.now.alt_min_set self.now.alt_min_clear now place flying min_alt_m cfg.now }
+    {
+        let alt = place.alt_m;
+        let home = place.home_dist_m;
+        let bad = (alt < min_alt_m) & (cfg.alt_min_home_radius_m < home) & flying;
+        let good = (min_alt_m + cfg.alt_min_clear_m < alt) | (home <= cfg.alt_min_home_radius_m);
+        timers::hold_pair(
+            self.alt_min_set,
+            self.alt_min_clear,
+            now,
+            bad,
+            cfg.alt_min_set_ms,
+            good,
+            cfg.alt_min_clear_ms,
+        )
+    }
+
+    // Timers rest without a valid position.
+    fn fence(
+        &self,
+        now: u32,
+        place: Option<Place>,
+        flying: bool,
+        min_alt_m: f32,
+        max_alt_m: f32,
+        cfg: &Config,
+    ) -> FenceHeld
+        ensures { result ≡ fence wrapping self.now now place flying min_alt_m max_alt_m cfg.now }
+    {
+        match place {
+            Some(p) => FenceHeld {
+                approach: fence_approach(p.fence.m, cfg),
+                breach: self.fence_breach(now, p.fence.m, cfg),
+                alt_max: self.altitude_max(now, p.alt_m, max_alt_m, cfg),
+                alt_min: self.altitude_min(now, p, flying, min_alt_m, cfg),
+            },
+            None => FenceHeld {
+                approach: false,
+                breach: timers::rested(self.fence_breach_set, self.fence_breach_clear),
+                alt_max: timers::rested(self.alt_max_set, self.alt_max_clear),
+                alt_min: timers::rested(self.alt_min_set, self.alt_min_clear),
+            },
+        }
     }
 }
 
@@ -362,24 +363,29 @@ pub struct StaleBattery {
     pub clear: Timer,
 }
 
-// Stale without a fresh voltage and a fresh charge. The clear timer runs otherwise; nothing reads it.
-fn stale_battery(
-    clear: Timer,
-    now: u32,
-    percent: Option<f32>,
-    volts: Option<f32>,
-    clear_ms: u32,
-) -> StaleBattery
-    ensures { result ≡ stale_battery wrapping clear now percent volts clear_ms }
-{
-    if volts.is_some() | percent.is_some() {
-        let h = clear.held_set(now, true, clear_ms);
-        StaleBattery {
-            stale: false,
-            clear: h.timer,
+impl TriggerState {
+    // Stale without a fresh voltage and a fresh charge. The clear timer runs otherwise; nothing reads it.
+    fn stale_battery(
+        &self,
+        now: u32,
+        percent: Option<f32>,
+        volts: Option<f32>,
+        clear_ms: u32,
+    ) -> StaleBattery
+        ensures { result ≡ stale_battery wrapping self.now.stale_bat_clear now percent volts clear_ms }
+    {
+        if volts.is_some() | percent.is_some() {
+            let h = self.stale_bat_clear.held_set(now, true, clear_ms);
+            StaleBattery {
+                stale: false,
+                clear: h.timer,
+            }
+        } else {
+            StaleBattery {
+                stale: true,
+                clear: self.stale_bat_clear,
+            }
         }
-    } else {
-        StaleBattery { stale: true, clear }
     }
 }
 
@@ -398,78 +404,80 @@ fn low_voltage(volts: Option<f32>, cfg: &Config) -> bool
     volts.is_some_and(|v| v < cfg.battery_critical_v_per_cell * (cfg.cell_count as f32))
 }
 
-fn battery_warn(set: Timer, clear: Timer, now: u32, p: f32, cfg: &Config) -> PairHeld
-    ensures { result ≡ battery_warn wrapping set clear now p cfg.now }
-{
-    let bad = p < cfg.battery_warn_pct;
-    let good = cfg.battery_warn_clear_pct < p;
-    timers::hold_pair(
-        set,
-        clear,
-        now,
-        bad,
-        cfg.battery_warn_set_ms,
-        good,
-        cfg.battery_warn_clear_ms,
-    )
-}
+impl TriggerState {
+    fn battery_warn(&self, now: u32, p: f32, cfg: &Config) -> PairHeld
+        ensures { result ≡ battery_warn wrapping self.now.bat_warn_set self.now.bat_warn_clear now p cfg.now }
+    {
+        let bad = p < cfg.battery_warn_pct;
+        let good = cfg.battery_warn_clear_pct < p;
+        timers::hold_pair(
+            self.bat_warn_set,
+            self.bat_warn_clear,
+            now,
+            bad,
+            cfg.battery_warn_set_ms,
+            good,
+            cfg.battery_warn_clear_ms,
+        )
+    }
 
-fn battery_low(set: Timer, clear: Timer, now: u32, p: f32, cfg: &Config) -> PairHeld
-    ensures { result ≡ battery_low wrapping set clear now p cfg.now }
-{
-    let bad = p < cfg.battery_low_pct;
-    let good = cfg.battery_low_clear_pct < p;
-    timers::hold_pair(
-        set,
-        clear,
-        now,
-        bad,
-        cfg.battery_low_set_ms,
-        good,
-        cfg.battery_low_clear_ms,
-    )
-}
+    fn battery_low(&self, now: u32, p: f32, cfg: &Config) -> PairHeld
+        ensures { result ≡ battery_low wrapping self.now.bat_low_set self.now.bat_low_clear now p cfg.now }
+    {
+        let bad = p < cfg.battery_low_pct;
+        let good = cfg.battery_low_clear_pct < p;
+        timers::hold_pair(
+            self.bat_low_set,
+            self.bat_low_clear,
+            now,
+            bad,
+            cfg.battery_low_set_ms,
+            good,
+            cfg.battery_low_clear_ms,
+        )
+    }
 
-fn battery_critical(set: Timer, now: u32, p: f32, volts: Option<f32>, cfg: &Config) -> Held
-    ensures { result ≡ battery_critical wrapping set now p volts cfg.now }
-{
-    let low = low_voltage(volts, cfg);
-    set.held_set(
-        now,
-        (p < cfg.battery_critical_pct) | low,
-        cfg.battery_critical_set_ms,
-    )
-}
+    fn battery_critical(&self, now: u32, p: f32, volts: Option<f32>, cfg: &Config) -> Held
+        ensures { result ≡ battery_critical wrapping self.now.bat_crit_set now p volts cfg.now }
+    {
+        let low = low_voltage(volts, cfg);
+        self.bat_crit_set.held_set(
+            now,
+            (p < cfg.battery_critical_pct) | low,
+            cfg.battery_critical_set_ms,
+        )
+    }
 
-// Without a fresh charge the timers rest, and a latched Land is not filed.
-fn battery_held(
-    s: &TriggerState,
-    now: u32,
-    percent: Option<f32>,
-    volts: Option<f32>,
-    cfg: &Config,
-) -> BatteryHeld
-    ensures { result ≡ battery wrapping s.now now percent volts cfg.now }
-{
-    let was = s.battery_critical_latched;
-    match percent {
-        Some(p) => {
-            let crit = battery_critical(s.bat_crit_set, now, p, volts, cfg);
-            BatteryHeld {
-                warn: battery_warn(s.bat_warn_set, s.bat_warn_clear, now, p, cfg),
-                low: battery_low(s.bat_low_set, s.bat_low_clear, now, p, cfg),
-                crit_set: crit.timer,
-                latched: was | crit.met,
-                critical: was | crit.met,
+    // Without a fresh charge the timers rest, and a latched Land is not filed.
+    fn battery(
+        &self,
+        now: u32,
+        percent: Option<f32>,
+        volts: Option<f32>,
+        cfg: &Config,
+    ) -> BatteryHeld
+        ensures { result ≡ battery wrapping self.now now percent volts cfg.now }
+    {
+        let was = self.battery_critical_latched;
+        match percent {
+            Some(p) => {
+                let crit = self.battery_critical(now, p, volts, cfg);
+                BatteryHeld {
+                    warn: self.battery_warn(now, p, cfg),
+                    low: self.battery_low(now, p, cfg),
+                    crit_set: crit.timer,
+                    latched: was | crit.met,
+                    critical: was | crit.met,
+                }
             }
+            None => BatteryHeld {
+                warn: timers::rested(self.bat_warn_set, self.bat_warn_clear),
+                low: timers::rested(self.bat_low_set, self.bat_low_clear),
+                crit_set: self.bat_crit_set,
+                latched: was,
+                critical: false,
+            },
         }
-        None => BatteryHeld {
-            warn: timers::rested(s.bat_warn_set, s.bat_warn_clear),
-            low: timers::rested(s.bat_low_set, s.bat_low_clear),
-            crit_set: s.bat_crit_set,
-            latched: was,
-            critical: false,
-        },
     }
 }
 
@@ -483,51 +491,53 @@ pub struct EnergyHeld {
     pub infeasible: bool,
 }
 
-fn energy_marginal(set: Timer, clear: Timer, now: u32, margin: f32, cfg: &Config) -> PairHeld
-    ensures { result ≡ energy_marginal wrapping set clear now margin cfg.now }
-{
-    let bad = (0.0 <= margin) & (margin < cfg.energy_marginal_wh);
-    let good = cfg.energy_marginal_clear_wh < margin;
-    timers::hold_pair(
-        set,
-        clear,
-        now,
-        bad,
-        cfg.energy_marginal_set_ms,
-        good,
-        cfg.energy_marginal_clear_ms,
-    )
-}
+impl TriggerState {
+    fn energy_marginal(&self, now: u32, margin: f32, cfg: &Config) -> PairHeld
+        ensures { result ≡ energy_marginal wrapping self.now.energy_marg_set self.now.energy_marg_clear now margin cfg.now }
+    {
+        let bad = (0.0 <= margin) & (margin < cfg.energy_marginal_wh);
+        let good = cfg.energy_marginal_clear_wh < margin;
+        timers::hold_pair(
+            self.energy_marg_set,
+            self.energy_marg_clear,
+            now,
+            bad,
+            cfg.energy_marginal_set_ms,
+            good,
+            cfg.energy_marginal_clear_ms,
+        )
+    }
 
-fn energy_held(s: &TriggerState, now: u32, margin: Option<f32>, cfg: &Config) -> EnergyHeld
-    ensures { result ≡ energy wrapping s.now now margin cfg.now }
-{
-    let was = s.energy_infeasible_latched;
-    match margin {
-        Some(m) => {
-            let h = s
-                .energy_infeas_set
-                .held_set(now, m < 0.0, cfg.energy_infeasible_set_ms);
-            EnergyHeld {
-                marginal: energy_marginal(s.energy_marg_set, s.energy_marg_clear, now, m, cfg),
-                infeas_set: h.timer,
-                latched: was | h.met,
-                infeasible: was | h.met,
+    fn energy(&self, now: u32, margin: Option<f32>, cfg: &Config) -> EnergyHeld
+        ensures { result ≡ energy wrapping self.now now margin cfg.now }
+    {
+        let was = self.energy_infeasible_latched;
+        match margin {
+            Some(m) => {
+                let h = self
+                    .energy_infeas_set
+                    .held_set(now, m < 0.0, cfg.energy_infeasible_set_ms);
+                EnergyHeld {
+                    marginal: self.energy_marginal(now, m, cfg),
+                    infeas_set: h.timer,
+                    latched: was | h.met,
+                    infeasible: was | h.met,
+                }
             }
+            None => EnergyHeld {
+                marginal: timers::rested(self.energy_marg_set, self.energy_marg_clear),
+                infeas_set: self.energy_infeas_set,
+                latched: was,
+                infeasible: false,
+            },
         }
-        None => EnergyHeld {
-            marginal: timers::rested(s.energy_marg_set, s.energy_marg_clear),
-            infeas_set: s.energy_infeas_set,
-            latched: was,
-            infeasible: false,
-        },
     }
 }
 
 // ---- the whole
 
 // The requests that a kind 11 configuration keeps once they are raised, in the order of kind 12's bytes.
-#[derive(Clone, Copy)]
+#[derive(Clone, Copy, Default)]
 pub struct Raised {
     pub gps_degraded: bool,
     pub gps_lost: bool,
@@ -539,7 +549,7 @@ pub struct Raised {
     pub energy_rtl_marginal: bool,
 }
 
-#[derive(Clone, Copy)]
+#[derive(Clone, Copy, Default)]
 pub struct TriggerState {
     pub battery_critical_latched: bool,
     pub energy_infeasible_latched: bool,
@@ -595,65 +605,55 @@ pub struct Updated {
     pub active: ActiveSet,
 }
 
-fn ekf_held(set: Timer, clear: Timer, now: u32, healthy: bool, cfg: &Config) -> PairHeld
-    ensures { result ≡ ekf wrapping set clear now healthy cfg.now }
-{
-    timers::hold_pair(
-        set,
-        clear,
-        now,
-        !healthy,
-        cfg.ekf_unhealthy_set_ms,
-        healthy,
-        cfg.ekf_unhealthy_clear_ms,
-    )
-}
+impl TriggerState {
+    fn ekf(&self, now: u32, healthy: bool, cfg: &Config) -> PairHeld
+        ensures { result ≡ ekf wrapping self.now.ekf_set self.now.ekf_clear now healthy cfg.now }
+    {
+        timers::hold_pair(
+            self.ekf_set,
+            self.ekf_clear,
+            now,
+            !healthy,
+            cfg.ekf_unhealthy_set_ms,
+            healthy,
+            cfg.ekf_unhealthy_clear_ms,
+        )
+    }
 
-fn all_families(
-    s: &TriggerState,
-    t: &Telemetry,
-    cfg: &Config,
-    min_alt_m: f32,
-    max_alt_m: f32,
-    place: Option<Place>,
-    margin: Option<f32>,
-    invalid: bool,
-) -> Families
-    ensures { result ≡ families wrapping s.now t.now cfg.now min_alt_m max_alt_m place margin invalid }
-{
-    let now = t.now_ms;
-    let rc_good = validate::fresh_true(now, t.rc_ok, cfg.status_fresh_ms);
-    let healthy = validate::fresh_true(now, t.ekf_ok, cfg.status_fresh_ms);
-    let flying = in_air(validate::fresh_landed(now, t.landed, cfg.status_fresh_ms));
-    let percent = validate::fresh_battery_percent(
-        now,
-        t.battery,
-        cfg.battery_fresh_ms,
-        cfg.usable_capacity_wh,
-    );
-    let volts = validate::fresh_voltage(now, t.battery, cfg.battery_fresh_ms);
-    Families {
-        invalid: invalid_input(
-            s.invalid_active,
-            s.invalid_clear,
+    fn families(
+        &self,
+        t: &Telemetry,
+        cfg: &Config,
+        min_alt_m: f32,
+        max_alt_m: f32,
+        place: Option<Place>,
+        margin: Option<f32>,
+        invalid: bool,
+    ) -> Families
+        ensures { result ≡ families wrapping self.now t.now cfg.now min_alt_m max_alt_m place margin invalid }
+    {
+        let now = t.now_ms;
+        let rc_good = validate::fresh_true(now, t.rc_ok, cfg.status_fresh_ms);
+        let healthy = validate::fresh_true(now, t.ekf_ok, cfg.status_fresh_ms);
+        let flying = in_air(validate::fresh_landed(now, t.landed, cfg.status_fresh_ms));
+        let percent = validate::fresh_battery_percent(
             now,
-            invalid,
-            cfg.invalid_input_clear_ms,
-        ),
-        gcs: gcs_link(s.gcs_clear_timer, s.gcs_stage, now, t.gcs_heartbeat_ms, cfg),
-        rc: rc_link(s.rc_lost_set, s.rc_clear_timer, now, rc_good, cfg),
-        gps: gps_held(s, now, t.gps, cfg),
-        ekf: ekf_held(s.ekf_set, s.ekf_clear, now, healthy, cfg),
-        fence: fence_held(s, now, place, flying, min_alt_m, max_alt_m, cfg),
-        stale: stale_battery(
-            s.stale_bat_clear,
-            now,
-            percent,
-            volts,
-            cfg.stale_battery_clear_ms,
-        ),
-        battery: battery_held(s, now, percent, volts, cfg),
-        energy: energy_held(s, now, margin, cfg),
+            t.battery,
+            cfg.battery_fresh_ms,
+            cfg.usable_capacity_wh,
+        );
+        let volts = validate::fresh_voltage(now, t.battery, cfg.battery_fresh_ms);
+        Families {
+            invalid: self.invalid_input(now, invalid, cfg.invalid_input_clear_ms),
+            gcs: self.gcs_link(now, t.gcs_heartbeat_ms, cfg),
+            rc: self.rc_link(now, rc_good, cfg),
+            gps: self.gps(now, t.gps, cfg),
+            ekf: self.ekf(now, healthy, cfg),
+            fence: self.fence(now, place, flying, min_alt_m, max_alt_m, cfg),
+            stale: self.stale_battery(now, percent, volts, cfg.stale_battery_clear_ms),
+            battery: self.battery(now, percent, volts, cfg),
+            energy: self.energy(now, margin, cfg),
+        }
     }
 }
 
@@ -661,21 +661,13 @@ impl Raised {
     pub fn none() -> Self
         ensures { result ≡ none_raised }
     {
-        Self {
-            gps_degraded: false,
-            gps_lost: false,
-            ekf_unhealthy: false,
-            fence_breach: false,
-            altitude_min: false,
-            battery_warn: false,
-            battery_low: false,
-            energy_rtl_marginal: false,
-        }
+        Self::default()
     }
 }
 
 // What is raised at a step, each by its pair of timers. There is one branch for the rule, which is quicker than a choice for each; under
 // kind 1 nothing is read of what was raised before.
+#[tactic(auto, unfolding(crate::specs::Update::raised_of, timers::specs::Timer::raised_by))]
 fn raised_of(keeps: bool, before: Raised, f: &Families) -> Raised
     ensures { result ≡ raised_of keeps before f.now }
 {
@@ -708,7 +700,7 @@ fn raised_of(keeps: bool, before: Raised, f: &Families) -> Raised
     }
 }
 
-// What of it the next step is told.
+// What of it the next step is told. `keeps` is what the configuration says at run time.
 fn kept_raised(keeps: bool, on: Raised) -> Raised
     ensures { result ≡ kept_raised keeps on }
 {
@@ -722,37 +714,18 @@ fn rc_lost(keeps: bool, rc: &RcLink) -> bool
     if keeps { rc.met } else { rc.lost }
 }
 
-fn set_if(active: ActiveSet, on: bool, reason: Reason, action: Action) -> ActiveSet
-    ensures { result ≡ set_if active on reason action }
-{
-    if on {
-        active.set(reason, action)
-    } else {
-        active
-    }
-}
-
-fn set_option(active: ActiveSet, reason: Reason, action: Option<Action>) -> ActiveSet
-    ensures { result ≡ set_option active reason action }
-{
-    match action {
-        Some(a) => active.set(reason, a),
-        None => active,
-    }
-}
-
 // Requests are filed in the Rust's order, in three parts.
 fn link_requests(keeps: bool, on: Raised, f: &Families) -> ActiveSet
     ensures { result ≡ link_requests keeps on f.now }
 {
-    let a0 = ActiveSet::new();
-    let a1 = set_if(a0, f.invalid.active, Reason::InvalidInput, Action::Warn);
-    let a2 = set_option(a1, Reason::GcsLinkLost, f.gcs.request);
     let lost = rc_lost(keeps, &f.rc);
-    let a3 = set_if(a2, lost, Reason::RcLost, Action::ReturnToLaunch);
-    let a4 = set_if(a3, on.gps_degraded, Reason::GpsDegraded, Action::Warn);
-    let a5 = set_if(a4, on.gps_lost, Reason::GpsLost, Action::Land);
-    set_if(a5, on.ekf_unhealthy, Reason::EkfUnhealthy, Action::Land)
+    ActiveSet::new()
+        .set_if(f.invalid.active, Reason::InvalidInput, Action::Warn)
+        .set_option(Reason::GcsLinkLost, f.gcs.request)
+        .set_if(lost, Reason::RcLost, Action::ReturnToLaunch)
+        .set_if(on.gps_degraded, Reason::GpsDegraded, Action::Warn)
+        .set_if(on.gps_lost, Reason::GpsLost, Action::Land)
+        .set_if(on.ekf_unhealthy, Reason::EkfUnhealthy, Action::Land)
 }
 
 // AltitudeMax is not among those that are kept.
@@ -760,51 +733,29 @@ fn fence_requests(a: ActiveSet, on: Raised, f: &FenceHeld) -> ActiveSet
     ensures { result ≡ fence_requests a on f.now }
 {
     let high = timers::raised_by(false, false, f.alt_max);
-    let a1 = set_if(a, f.approach, Reason::FenceApproach, Action::Warn);
-    let a2 = set_if(
-        a1,
-        on.fence_breach,
-        Reason::FenceBreach,
-        Action::ReturnToLaunch,
-    );
-    let a3 = set_if(a2, high, Reason::AltitudeMax, Action::ReturnToLaunch);
-    set_if(a3, on.altitude_min, Reason::AltitudeMin, Action::Warn)
+    a.set_if(f.approach, Reason::FenceApproach, Action::Warn)
+        .set_if(on.fence_breach, Reason::FenceBreach, Action::ReturnToLaunch)
+        .set_if(high, Reason::AltitudeMax, Action::ReturnToLaunch)
+        .set_if(on.altitude_min, Reason::AltitudeMin, Action::Warn)
 }
 
 fn battery_requests(a: ActiveSet, on: Raised, f: &Families) -> ActiveSet
     ensures { result ≡ battery_requests a on f.now }
 {
-    let a1 = set_if(
-        a,
-        f.stale.stale,
-        Reason::StaleBattery,
-        Action::ReturnToLaunch,
-    );
-    let a2 = set_if(a1, on.battery_warn, Reason::BatteryWarn, Action::Warn);
-    let a3 = set_if(
-        a2,
-        on.battery_low,
-        Reason::BatteryLow,
-        Action::ReturnToLaunch,
-    );
-    let a4 = set_if(
-        a3,
-        f.battery.critical,
-        Reason::BatteryCritical,
-        Action::Land,
-    );
-    let a5 = set_if(
-        a4,
-        on.energy_rtl_marginal,
-        Reason::EnergyRtlMarginal,
-        Action::ReturnToLaunch,
-    );
-    set_if(
-        a5,
-        f.energy.infeasible,
-        Reason::EnergyRtlInfeasible,
-        Action::Land,
-    )
+    a.set_if(f.stale.stale, Reason::StaleBattery, Action::ReturnToLaunch)
+        .set_if(on.battery_warn, Reason::BatteryWarn, Action::Warn)
+        .set_if(on.battery_low, Reason::BatteryLow, Action::ReturnToLaunch)
+        .set_if(f.battery.critical, Reason::BatteryCritical, Action::Land)
+        .set_if(
+            on.energy_rtl_marginal,
+            Reason::EnergyRtlMarginal,
+            Action::ReturnToLaunch,
+        )
+        .set_if(
+            f.energy.infeasible,
+            Reason::EnergyRtlInfeasible,
+            Action::Land,
+        )
 }
 
 fn requests(keeps: bool, on: Raised, f: &Families) -> ActiveSet
@@ -853,44 +804,6 @@ fn next_triggers(kept: Raised, f: &Families) -> TriggerState
 }
 
 impl TriggerState {
-    pub fn default() -> Self
-        ensures { result ≡ fresh_triggers }
-    {
-        let t = Timer::clear();
-        Self {
-            battery_critical_latched: false,
-            energy_infeasible_latched: false,
-            gcs_clear_timer: t,
-            rc_clear_timer: t,
-            gps_deg_set: t,
-            gps_deg_clear: t,
-            gps_lost_set: t,
-            gps_lost_clear: t,
-            ekf_set: t,
-            ekf_clear: t,
-            fence_breach_set: t,
-            fence_breach_clear: t,
-            alt_max_set: t,
-            alt_max_clear: t,
-            alt_min_set: t,
-            alt_min_clear: t,
-            stale_bat_clear: t,
-            bat_warn_set: t,
-            bat_warn_clear: t,
-            bat_low_set: t,
-            bat_low_clear: t,
-            bat_crit_set: t,
-            energy_marg_set: t,
-            energy_marg_clear: t,
-            energy_infeas_set: t,
-            invalid_clear: t,
-            invalid_active: false,
-            rc_lost_set: t,
-            gcs_stage: 0,
-            raised: Raised::none(),
-        }
-    }
-
     pub fn gcs_clear_timer_clear(mut self) -> Self
         ensures { result ≡ without_gcs_timer self }
     {
@@ -899,6 +812,7 @@ impl TriggerState {
     }
 
     // A clock fault yields ClockFault alone and moves no timer.
+    #[tactic(auto, unfolding(crate::specs::Update::update))]
     pub fn update(
         &self,
         t: &Telemetry,
@@ -919,7 +833,7 @@ impl TriggerState {
             };
         }
         let keeps = cfg.keeps_raised;
-        let f = all_families(self, t, cfg, min_alt_m, max_alt_m, place, margin, invalid);
+        let f = self.families(t, cfg, min_alt_m, max_alt_m, place, margin, invalid);
         let on = raised_of(keeps, self.raised, &f);
         Updated {
             triggers: next_triggers(kept_raised(keeps, on), &f),

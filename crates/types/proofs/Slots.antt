@@ -1,20 +1,13 @@
--- A reason's slot is below nineteen and tells the reason; a turn of the loop over the slots. Assumes nothing.
-use Rattle.std.specs.Prelude.{Ok, Option}
-use Prim.Native.Nat.{ℕ, zero, suc, ◌+◌, ◌<◌, ◌≤◌, zero-le}
+-- A reason's slot is below nineteen and tells the reason; each enum's byte tells its case. Assumes nothing.
+use Rattle.std.specs.Prelude.{Ok}
+use Prim.Native.Nat.{◌<◌}
 use mathlib.Core.Path.{◌≡◌, refl, sym, ap, ◌∙◌}
-use mathlib.Core.List.{List}
-use native.Mathlib.Numerals.{add-one}
-use native.Mathlib.Omega.{arith}
 use lib.Dec.{lit<}
-use lib.ListN.{length, get_or, drop}
-use lib.Seq.{drop-cons}
 use Rattle.types.specs.declared.GpsFix.{GpsFix}
 use Rattle.types.specs.declared.LandedState.{LandedState}
 use Rattle.types.specs.declared.Action.{Action}
 use Rattle.types.specs.declared.Reason.{Reason}
-use Rattle.types.specs.declared.Request.{Request}
 use Rattle.types.specs.Numbers.{fix_number, fix_of_number, landed_number, landed_of_number, rank, action_of_rank, index, reason_of_index}
-use Rattle.types.specs.ActiveSet.{highest, higher_request}
 
 -- a reason has a slot
 pub index_lt : (r : Reason) → index r < 19
@@ -86,16 +79,3 @@ index_tells p q e = let f : Ok p ≡ Ok q = sym (reason_of_index_lem p) ∙ ap r
 
 pub rank_tells : (a b : Action) → rank a ≡ rank b → a ≡ b
 rank_tells a b e = let f : Ok a ≡ Ok b = sym (action_of_rank_lem a) ∙ ap action_of_rank e ∙ action_of_rank_lem b in cc
-
--- n is none of the numbers below k, as the last arm of a `match` tells it: it is k or more
-abbrev pub NoneBelow : ℕ → ℕ → Type 0
-NoneBelow n zero = Unit {0}
-NoneBelow n (suc k) = NoneBelow n k × (n ≡ k → ⊥)
-
-pub last_arm : (k n : ℕ) → NoneBelow n k → k ≤ n
-last_arm zero n h = zero-le
-last_arm (suc k) n h = let e = last_arm k n h.0 in let f = h.1 in omega arith
-
--- taking the next slot in
-pub taken_in : (b r : Request) (l : List (Option Request)) (i : ℕ) (d : Option Request) → i < length l → r ≡ higher_request b (get_or l i d) → highest b (drop i l) ≡ highest r (drop (i + 1) l)
-taken_in b r l i d h e = rw (e, add-one, drop-cons l i d h)

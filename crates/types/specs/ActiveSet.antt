@@ -1,5 +1,5 @@
 -- The nineteen slots, what filing does to them, and which request wins. Assumes nothing.
-use Rattle.std.specs.Prelude.{◌<◌, ◌≤◌, ◌≡◌, ◌⊎◌, cond, ltb, set, replicate, Option, Some, None}
+use Rattle.std.specs.Prelude.{Bool, ◌<◌, ◌≤◌, ◌≡◌, ◌⊎◌, cond, ltb, set, replicate, Option, Some, None}
 use mathlib.Core.List.{List, [], ◌∷◌, Memᴰ}
 use Rattle.types.specs.declared.Action.{Action}
 use Rattle.types.specs.declared.Reason.{Reason}
@@ -17,6 +17,15 @@ set_request s r a = record { reqs = set s.reqs (index r) (Some (record { reason 
 
 unfoldable pub clear_request : ActiveSet → Reason → ActiveSet
 clear_request s r = record { reqs = set s.reqs (index r) None }
+
+-- filed where `on` holds
+abbrev pub set_if : ActiveSet → Bool → Reason → Action → ActiveSet
+set_if s on r a = cond on (set_request s r a) s
+
+-- filed where there is an action
+abbrev pub set_option : ActiveSet → Reason → Option Action → ActiveSet
+set_option s r None = s
+set_option s r (Some a) = set_request s r a
 
 -- a request of higher rank, or of the same rank and higher display_priority, wins
 unfoldable pub higher_request : Request → Option Request → Request

@@ -1,5 +1,5 @@
 -- The numbers of the enums' cases. "enum a byte in declared order from 0". Assumes nothing.
-use Rattle.std.specs.Prelude.{ℕ, List, [], ◌∷◌, Result, Ok, Err, slice_get, ok_or}
+use Rattle.std.specs.Prelude.{ℕ, List, [], ◌∷◌, Result, slice_get, ok_or}
 use Rattle.types.specs.declared.GpsFix.{GpsFix}
 use Rattle.types.specs.declared.LandedState.{LandedState}
 use Rattle.types.specs.declared.Action.{Action}

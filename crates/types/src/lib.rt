@@ -1,10 +1,10 @@
 // The Rust's types.rs: readings, requests and decisions.
-#![tactic(auto)]
+#![tactic(auto, unfolding(crate::specs::Vec3::alt_m, crate::specs::Vec3::horizontal_dist_home, crate::specs::ActiveSet::set_request, crate::specs::ActiveSet::clear_request, crate::specs::ActiveSet::higher_request, crate::specs::ActiveSet::requested_action))]
 
 ghost use Rattle.std.specs.Prelude.{◌≡◌, ℕ};
 ghost use Rattle.types.specs.Vec3.{alt_m, horizontal_dist_home};
 ghost use Rattle.types.specs.Numbers.{fix_number, fix_of_number, landed_number, landed_of_number, rank, action_of_rank, index, reason_of_index, display_priority};
-ghost use Rattle.types.specs.ActiveSet.{higher_request, empty_set, set_request, clear_request, requested_action, Highest};
+ghost use Rattle.types.specs.ActiveSet.{higher_request, empty_set, set_request, set_if, set_option, clear_request, requested_action, Highest};
 
 pub const MAX_FENCE_VERTS: usize = 16;
 
@@ -136,8 +136,10 @@ pub struct Telemetry {
     pub ekf_ok: Option<Stamped<bool>>,
 }
 
-#[derive(Clone, Copy, PartialEq, Eq)]
+// In order of rank.
+#[derive(Clone, Copy, PartialEq, Eq, PartialOrd, Ord, Default)]
 pub enum Action {
+    #[default]
     Nominal,
     Warn,
     Hold,
@@ -145,8 +147,9 @@ pub enum Action {
     Land,
 }
 
-#[derive(Clone, Copy, PartialEq, Eq)]
+#[derive(Clone, Copy, PartialEq, Eq, Default)]
 pub enum Reason {
+    #[default]
     None,
     ClockFault,
     InvalidInput,
@@ -224,7 +227,7 @@ impl TryFrom<u8> for LandedState {
 }
 
 impl Action {
-    // Also the byte that a frame has for it: its place in declared order.
+    // The Rust's name. Also the byte that a frame has for it: its place in declared order.
     pub fn rank(self) -> u8
         ensures { result ≡ rank self }
     {
@@ -281,14 +284,14 @@ impl TryFrom<u8> for Reason {
 }
 
 impl Reason {
-    // Its slot. Also the byte that a frame has for it: its place in declared order.
+    // The Rust's name, of its slot. Also the byte that a frame has for it: its place in declared order.
     pub fn index(self) -> usize
         ensures { result ≡ index self }
     {
         self as usize
     }
 
-    // Among requests of the winning rank the highest of these names the reason.
+    // The Rust's name and table. Among requests of the winning rank the highest of these names the reason.
     pub fn display_priority(self) -> u8
         ensures { result ≡ display_priority self }
     {
@@ -316,7 +319,7 @@ impl Reason {
     }
 }
 
-#[derive(Clone, Copy)]
+#[derive(Clone, Copy, Default)]
 pub struct Request {
     pub reason: Reason,
     pub action: Action,
@@ -324,7 +327,7 @@ pub struct Request {
 
 #[derive(Clone, Copy)]
 pub struct ActiveSet {
-    pub reqs: [Option<Request>; 19],
+    pub reqs: [Option<Request>; N_REASONS],
 }
 
 // The higher of the highest so far and a slot's request.
@@ -334,26 +337,18 @@ fn higher_request(best: Request, slot: Option<Request>) -> Request
     let Some(q) = slot else {
         return best;
     };
-    let new = q.action.rank();
-    let old = best.action.rank();
-    if old < new {
-        return q;
-    }
-    if new < old {
-        return best;
-    }
-    if best.reason.display_priority() < q.reason.display_priority() {
-        q
-    } else {
-        best
-    }
+    let old = (best.action, best.reason.display_priority());
+    let new = (q.action, q.reason.display_priority());
+    if old < new { q } else { best }
 }
 
 impl ActiveSet {
     pub fn new() -> Self
         ensures { result ≡ empty_set }
     {
-        Self { reqs: [None; 19] }
+        Self {
+            reqs: [None; N_REASONS],
+        }
     }
 
     pub fn set(mut self, reason: Reason, action: Action) -> Self
@@ -361,6 +356,21 @@ impl ActiveSet {
     {
         self.reqs[reason.index()] = Some(Request { reason, action });
         self
+    }
+
+    pub fn set_if(self, on: bool, reason: Reason, action: Action) -> Self
+        ensures { result ≡ set_if self on reason action }
+    {
+        if on { self.set(reason, action) } else { self }
+    }
+
+    pub fn set_option(self, reason: Reason, action: Option<Action>) -> Self
+        ensures { result ≡ set_option self reason action }
+    {
+        match action {
+            Some(a) => self.set(reason, a),
+            None => self,
+        }
     }
 
     pub fn clear(mut self, reason: Reason) -> Self
@@ -374,10 +384,7 @@ impl ActiveSet {
         ensures value { result ≡ requested_action self.reqs }
         ensures highest { Highest self.reqs result }
     {
-        let mut best = Request {
-            reason: Reason::None,
-            action: Action::Nominal,
-        };
+        let mut best = Request::default();
         for slot in &self.reqs {
             best = higher_request(best, *slot);
         }

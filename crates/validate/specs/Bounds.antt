@@ -50,13 +50,17 @@ validate_hdop (Some h) = is_finite h && not (lt h zero_f) && not (lt hundred h)
 unfoldable pub validate_gps : GpsSample → Bool
 validate_gps g = validate_hdop g.hdop
 
--- of a voltage and of a percentage: finite, from 0 to 100
-unfoldable pub validate_percent : Float → Bool
-validate_percent p = is_finite p && le zero_f p && le p hundred
+-- finite, and from 0 to `most`
+abbrev pub up_to : Float → Float → Bool
+up_to most x = is_finite x && le zero_f x && le x most
 
--- finite, from 0 to 1.1 times the capacity
+-- of a voltage and of a percentage: up to 100
+unfoldable pub validate_percent : Float → Bool
+validate_percent p = up_to hundred p
+
+-- up to 1.1 times the capacity
 unfoldable pub validate_remaining : Float → Float → Bool
-validate_remaining r cap = is_finite r && le zero_f r && le r (mul_f cap overfull)
+validate_remaining r cap = up_to (mul_f cap overfull) r
 
 -- an absent reading breaks no bound
 abbrev pub position_ok : Option PositionSample → Bool

@@ -4,15 +4,15 @@
 ghost use Rattle.std.specs.Prelude.{◌≡◌, ◌&&◌};
 ghost use Rattle.float32.specs.Libm.{is_finite};
 ghost use Rattle.time.specs.Time.{wrapping};
-ghost use Rattle.validate.specs.Bounds.{within_position, within_velocity, validate_position_sample, validate_hdop, validate_gps, validate_percent, validate_remaining, position_ok, gps_ok, percent_ok, remaining_ok, keep, validate_telemetry};
-ghost use Rattle.validate.specs.Glitch.{distance_between, within_jump, accept_sample, accept_stored, next_streak, apply_glitch_filter, no_glitch};
+ghost use Rattle.validate.specs.Bounds.{within_position, within_velocity, validate_position_sample, validate_hdop, validate_gps, up_to, validate_percent, validate_remaining, position_ok, gps_ok, percent_ok, remaining_ok, keep, validate_telemetry};
+ghost use Rattle.validate.specs.Glitch.{distance_between, within_jump, accept_sample, accept_stored, apply_glitch_filter};
 ghost use Rattle.validate.specs.Fresh.{fresh_true, position_valid, confirmed_disarm, fresh_reading, fresh_value, fresh_battery_percent, fresh_remaining_wh, fresh_voltage, fresh_landed, fresh_gps};
 
 use types::{
     BatteryInputs, GpsSample, LandedState, PositionSample, Stamped, Telemetry, Timed, Vec3,
 };
 
-#[derive(Clone, Copy)]
+#[derive(Clone, Copy, Default)]
 pub struct GlitchState {
     pub last_accepted: Option<PositionSample>,
     pub reject_streak: u8,
@@ -66,29 +66,34 @@ fn validate_position_sample(pos: PositionSample) -> bool
 fn validate_hdop(hdop: Option<f32>) -> bool
     ensures { result ≡ validate_hdop hdop }
 {
-    match hdop {
-        Some(h) => float32::is_finite(h) & !(h < 0.0) & !(100.0 < h),
-        None => true,
-    }
+    hdop.is_none_or(|h| float32::is_finite(h) & !(h < 0.0) & !(100.0 < h))
 }
 
+// These three are the Rust's names, a line each over what they share.
 fn validate_gps(gps: GpsSample) -> bool
     ensures { result ≡ validate_gps gps }
 {
     validate_hdop(gps.hdop)
 }
 
+// Finite, and from 0 to `most`.
+fn up_to(most: f32, x: f32) -> bool
+    ensures { result ≡ up_to most x }
+{
+    float32::is_finite(x) & (0.0 <= x) & (x <= most)
+}
+
 // Of a voltage and of a percentage.
 fn validate_percent(p: f32) -> bool
     ensures { result ≡ validate_percent p }
 {
-    float32::is_finite(p) & (0.0 <= p) & (p <= 100.0)
+    up_to(100.0, p)
 }
 
 fn validate_remaining(r: f32, cap: f32) -> bool
     ensures { result ≡ validate_remaining r cap }
 {
-    float32::is_finite(r) & (0.0 <= r) & (r <= cap * 1.1)
+    up_to(cap * 1.1, r)
 }
 
 pub fn position_ok(p: Option<PositionSample>) -> bool
@@ -106,19 +111,13 @@ pub fn gps_ok(g: Option<GpsSample>) -> bool
 pub fn percent_ok(p: Option<Stamped<f32>>) -> bool
     ensures { result ≡ percent_ok p }
 {
-    match p {
-        Some(r) => validate_percent(r.value),
-        None => true,
-    }
+    p.is_none_or(|r| validate_percent(r.value))
 }
 
 pub fn remaining_ok(p: Option<Stamped<f32>>, cap: f32) -> bool
     ensures { result ≡ remaining_ok p cap }
 {
-    match p {
-        Some(r) => validate_remaining(r.value, cap),
-        None => true,
-    }
+    p.is_none_or(|r| validate_remaining(r.value, cap))
 }
 
 // A reading where it is kept.
@@ -156,17 +155,6 @@ pub fn validate_telemetry(raw: Telemetry, usable_capacity_wh: f32) -> ValidatedT
 
 // ---- the glitch filter
 
-impl GlitchState {
-    pub fn default() -> Self
-        ensures { result ≡ no_glitch }
-    {
-        Self {
-            last_accepted: None,
-            reject_streak: 0,
-        }
-    }
-}
-
 fn distance_between(a: Vec3, b: Vec3) -> f32
     ensures { result ≡ distance_between a b }
 {
@@ -196,12 +184,9 @@ fn accept_sample(
     if 3 <= streak {
         return true;
     }
-    match time::age_ms(now_ms, last.t_ms) {
-        Some(gap) => {
-            2000 < gap || within_jump(distance_between(sample.pos, last.pos), gap, v_max)
-        }
-        None => true,
-    }
+    time::age_ms(now_ms, last.t_ms).is_none_or(|gap| {
+        2000 < gap || within_jump(distance_between(sample.pos, last.pos), gap, v_max)
+    })
 }
 
 fn accept_stored(
@@ -213,16 +198,7 @@ fn accept_stored(
 ) -> bool
     ensures { result ≡ accept_stored wrapping stored streak now_ms sample v_max }
 {
-    match stored {
-        Some(last) => accept_sample(last, streak, now_ms, sample, v_max),
-        None => true,
-    }
-}
-
-fn next_streak(streak: u8) -> u8
-    ensures { result ≡ next_streak streak }
-{
-    if streak < 255 { streak + 1 } else { 255 }
+    stored.is_none_or(|last| accept_sample(last, streak, now_ms, sample, v_max))
 }
 
 pub fn apply_glitch_filter(
@@ -235,7 +211,7 @@ pub fn apply_glitch_filter(
 {
     let Some(sample) = pos else {
         return Filtered {
-            glitch: glitch,
+            glitch,
             position: None,
         };
     };
@@ -253,7 +229,7 @@ pub fn apply_glitch_filter(
     Filtered {
         glitch: GlitchState {
             last_accepted: last,
-            reject_streak: next_streak(streak),
+            reject_streak: streak.saturating_add(1),
         },
         position: None,
     }
@@ -265,20 +241,14 @@ pub fn apply_glitch_filter(
 fn fresh<T: Timed + Copy>(now_ms: u32, x: Option<T>, limit_ms: u32) -> Option<T>
     ensures { result ≡ fresh_reading T.stamp wrapping now_ms x limit_ms }
 {
-    match x {
-        Some(r) if time::is_fresh(now_ms, r.t_ms(), limit_ms) => Some(r),
-        _ => None,
-    }
+    x.filter(|r| time::is_fresh(now_ms, r.t_ms(), limit_ms))
 }
 
 // A reading's value where it is fresh.
 fn fresh_value<T: Copy>(now_ms: u32, x: Option<Stamped<T>>, limit_ms: u32) -> Option<T>
     ensures { result ≡ fresh_value wrapping now_ms x limit_ms }
 {
-    match fresh(now_ms, x, limit_ms) {
-        Some(r) => Some(r.value),
-        None => None,
-    }
+    fresh(now_ms, x, limit_ms).map(|r| r.value)
 }
 
 // Whether a flag is fresh and true.
@@ -307,6 +277,7 @@ pub fn position_valid(
     fresh(now_ms, pos, pos_fresh_ms).is_some() & fresh_true(now_ms, ekf_ok, status_fresh_ms)
 }
 
+// Here and below what is read is handed over one by one: a struct for it would be filled at one call alone.
 // The fresh charge in percent: from remaining_wh where that is fresh, else as read.
 pub fn fresh_battery_percent(
     now_ms: u32,
@@ -316,10 +287,9 @@ pub fn fresh_battery_percent(
 ) -> Option<f32>
     ensures { result ≡ fresh_battery_percent wrapping now_ms battery battery_fresh_ms usable_capacity_wh }
 {
-    match fresh_value(now_ms, battery.remaining_wh, battery_fresh_ms) {
-        Some(r) => Some(r / usable_capacity_wh * 100.0),
-        None => fresh_value(now_ms, battery.percent, battery_fresh_ms),
-    }
+    fresh_value(now_ms, battery.remaining_wh, battery_fresh_ms)
+        .map(|r| r / usable_capacity_wh * 100.0)
+        .or_else(|| fresh_value(now_ms, battery.percent, battery_fresh_ms))
 }
 
 // The fresh charge in watt-hours: as read where that is fresh, else from the percentage.
@@ -331,11 +301,10 @@ pub fn fresh_remaining_wh(
 ) -> Option<f32>
     ensures { result ≡ fresh_remaining_wh wrapping now_ms battery battery_fresh_ms usable_capacity_wh }
 {
-    if let Some(r) = fresh_value(now_ms, battery.remaining_wh, battery_fresh_ms) {
-        return Some(r);
-    }
-    let p = fresh_value(now_ms, battery.percent, battery_fresh_ms)?;
-    Some(p / 100.0 * usable_capacity_wh)
+    fresh_value(now_ms, battery.remaining_wh, battery_fresh_ms).or_else(|| {
+        fresh_value(now_ms, battery.percent, battery_fresh_ms).map(|p| p / 100.0
+            * usable_capacity_wh)
+    })
 }
 
 pub fn fresh_voltage(now_ms: u32, battery: BatteryInputs, battery_fresh_ms: u32) -> Option<f32>

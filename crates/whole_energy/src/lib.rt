@@ -6,7 +6,7 @@ ghost use Rattle.std.specs.Prelude.{◌≡◌, ◌<◌, ◌≤◌, true, false, 
 ghost use Rattle.whole_energy.specs.Root.{whole_root, WholeRoot};
 ghost use Rattle.whole_energy.specs.Input.{i32_at, input_of, within, within_limits, speed_of_zero, from_zero, return_of};
 ghost use Rattle.whole_energy.specs.Energy.{Bounded, one_for, leg, rounded_up, estimate_of};
-ghost use Rattle.whole_energy.specs.Call.{refusal_number, estimated, estimate_bytes, energy_call};
+ghost use Rattle.whole_energy.specs.Call.{energy_error_number, estimated, estimate_bytes, energy_call};
 
 // The numbers that a host gives.
 #[derive(Clone, Copy)]
@@ -69,8 +69,8 @@ pub struct Estimate {
 }
 
 // Why a call is turned away, by its number.
-#[derive(Clone, Copy)]
-pub enum Refusal {
+#[derive(Clone, Copy, PartialEq, Eq)]
+pub enum EnergyError {
     TooShort = 1,
     TooLong = 3,
     NoRoom = 5,
@@ -78,9 +78,10 @@ pub enum Refusal {
     SpeedOfZero = 37,
 }
 
-impl Refusal {
-    fn number(self) -> u32
-        ensures { result ≡ refusal_number self }
+impl EnergyError {
+    // The number of the refusal: what a C host is answered.
+    pub fn number(self) -> u32
+        ensures { result ≡ energy_error_number self }
     {
         self as u32
     }
@@ -220,21 +221,21 @@ fn estimate_of(x: Return) -> Estimate
 }
 
 // The estimate of the thirteen numbers, four bytes each.
-fn estimated(input: &[u8]) -> Result<Estimate, Refusal>
+fn estimated(input: &[u8]) -> Result<Estimate, EnergyError>
     ensures { result ≡ estimated input.now }
 {
     if input.len() < 52 {
-        return Err(Refusal::TooShort);
+        return Err(EnergyError::TooShort);
     }
     if input.len() > 52 {
-        return Err(Refusal::TooLong);
+        return Err(EnergyError::TooLong);
     }
     let i = input_of(input);
     if !within_limits(i) {
-        return Err(Refusal::OutsideLimits);
+        return Err(EnergyError::OutsideLimits);
     }
     if speed_of_zero(i) {
-        return Err(Refusal::SpeedOfZero);
+        return Err(EnergyError::SpeedOfZero);
     }
     Ok(estimate_of(return_of(i)))
 }
@@ -257,19 +258,16 @@ fn estimate_bytes(e: Estimate) -> [[u8; 8]; 9]
     ]
 }
 
-// The estimate of `input`, into the first 72 bytes of `output`: 0, or the number of the refusal with nothing written.
+// The estimate of `input`, into the first 72 bytes of `output`; nothing is written where the call is turned away.
 #[tactic(auto, unfolding(crate::specs::Call::energy_call))]
-pub fn whole_energy(input: &[u8], output: &mut [u8]) -> u32
-    ensures value { result ≡ (energy_call input.now output.old).number }
+pub fn whole_energy(input: &[u8], output: &mut [u8]) -> Result<(), EnergyError>
+    ensures value { result ≡ (energy_call input.now output.old).result }
     ensures output_after { output.new ≡ (energy_call input.now output.old).output }
 {
-    let e = match estimated(input) {
-        Ok(e) => e,
-        Err(refusal) => return refusal.number(),
-    };
+    let e = estimated(input)?;
     if output.len() < 72 {
-        return Refusal::NoRoom.number();
+        return Err(EnergyError::NoRoom);
     }
     output[..72].copy_from_slice(estimate_bytes(e).as_flattened());
-    0
+    Ok(())
 }

@@ -7,4 +7,5 @@ pub mod Laid
 pub mod Fields
 pub mod Whole
 pub mod Head
+pub mod Read
 pub mod Cells

@@ -2,10 +2,11 @@
 // bytes of 0; writing changes only what lies within the slice.
 #![tactic(auto)]
 
-ghost use Rattle.std.specs.Prelude.{◌≡◌, ◌+◌, ◌*◌, ◌≤◌, min, eqb, length, replicate};
+ghost use Rattle.std.specs.Prelude.{◌≡◌, ◌+◌, ◌*◌, ◌≤◌, length, replicate};
+ghost use Rattle.std.specs.Result.{is_ok, IfOk};
 ghost use Rattle.std.proofs.lemmas.List.Edits.{sets};
 ghost use Rattle.wire.specs.Fields.{u8_at, u16_at, u32_at, f32_at, flag_at, byte_below, le8, le16, le32, le_f32, le_flag};
-ghost use Rattle.wire.specs.Frame.{whole_frame, frame_fault, frame_head};
+ghost use Rattle.wire.specs.Frame.{whole_frame, frame_error_number, frame_number, check_frame, frame_head};
 
 // The number of two bytes, the lowest first; of four; of two halves.
 fn pair(a: u8, b: u8) -> u16
@@ -26,6 +27,7 @@ fn halves(a: u16, b: u16) -> u32
     (a as u32) + 65536 * (b as u32)
 }
 
+// Reading. Each width has a body of its own; where one function serves several types, `options::Field` is the trait over these.
 pub fn u8_at(s: &[u8], at: usize) -> u8
     ensures { result ≡ u8_at s.now at }
 {
@@ -77,6 +79,7 @@ pub fn f32_at(s: &[u8], at: usize) -> f32
     float32::from_bits(u32_at(s, at))
 }
 
+// Writing, width by width like the reading.
 pub fn put_u8(s: &mut [u8], at: usize, b: u8)
     ensures { s.new ≡ sets s.old at (le8 b) }
 {
@@ -128,57 +131,48 @@ pub fn put_flag(s: &mut [u8], at: usize, b: bool)
     }
 }
 
-pub fn smaller(a: usize, b: usize) -> usize
-    ensures { result ≡ min a b }
-{
-    if a < b { a } else { b }
-}
-
 // `n` bytes of 0.
 pub fn put_zeros(s: &mut [u8], at: usize, n: usize)
     ensures { s.new ≡ sets s.old at (replicate n 0) }
 {
     if at < s.len() {
-        let within = smaller(n, s.len() - at);
-        let mut i: usize = 0;
-        while i < within {
+        for i in 0..n.min(s.len() - at) {
             s[at + i] = 0;
-            i += 1;
         }
     }
 }
 
-// The refusal number that a frame's head earns, 0 for none: `kind` is due, and `len` bytes of kind and body.
-pub fn frame_fault(s: &[u8], kind: u16, len: u16) -> u16
-    ensures { result ≡ frame_fault kind len s.now }
-{
-    if s.len() < 2 {
-        return 1;
-    }
-    let n = u16_at(s, 0);
-    if s.len() < 2 + widened(n) {
-        return 1;
-    }
-    if n < 2 {
-        return 3;
-    }
-    if u16_at(s, 2) == kind {
-        if n == len {
-            if s.len() == 2 + widened(len) {
-                return 0;
-            }
-            return 3;
-        }
-        return 3;
-    }
-    2
+// What is wrong with a frame, or with the room for one.
+#[derive(Clone, Copy)]
+pub enum FrameError {
+    Incomplete = 1,
+    WrongKind = 2,
+    WrongLength = 3,
+    OutOfRange = 4,
+    NoRoom = 5,
 }
 
-// Whether a frame's head earns no refusal, by the fewest tests. `frame_fault` tells which refusal it earns.
-pub fn frame_fits(s: &[u8], kind: u16, len: u16) -> bool
-    ensures { result ≡ eqb (frame_fault kind len s.now) 0 }
+impl FrameError {
+    // The number of the refusal: what a C host is answered.
+    pub fn number(self) -> u16
+        ensures { result ≡ frame_error_number self }
+    {
+        self as u16
+    }
+}
+
+// What a C entry answers: 0, or the number of the refusal.
+pub fn number_of(r: Result<(), FrameError>) -> u32
+    ensures { result ≡ frame_number r }
 {
-    if s.len() == 2 + widened(len) {
+    r.map_or_else(|e| u32::from(e.number()), |()| 0)
+}
+
+// Whether a frame's head earns no refusal, by the fewest tests.
+fn head_fits(s: &[u8], kind: u16, len: u16) -> bool
+    ensures { result ≡ is_ok (check_frame kind len s.now) }
+{
+    if s.len() == 2 + usize::from(len) {
         if u32_at(s, 0) == halves(len, kind) {
             return 1 < len;
         }
@@ -186,13 +180,46 @@ pub fn frame_fits(s: &[u8], kind: u16, len: u16) -> bool
     false
 }
 
-fn widened(n: u16) -> usize
-    ensures { result ≡ n }
+// The refusal that a frame's head earns: `kind` is due, and `len` bytes of kind and body.
+#[tactic(auto, unfolding(crate::specs::Frame::check_frame))]
+fn head_error(s: &[u8], kind: u16, len: u16) -> Result<(), FrameError>
+    ensures { result ≡ check_frame kind len s.now }
 {
-    n as usize
+    if s.len() < 2 {
+        return Err(FrameError::Incomplete);
+    }
+    let n = u16_at(s, 0);
+    if s.len() < 2 + usize::from(n) {
+        return Err(FrameError::Incomplete);
+    }
+    if n < 2 {
+        return Err(FrameError::WrongLength);
+    }
+    if u16_at(s, 2) != kind {
+        return Err(FrameError::WrongKind);
+    }
+    if (n == len) & (s.len() == 2 + usize::from(len)) {
+        Ok(())
+    } else {
+        Err(FrameError::WrongLength)
+    }
+}
+
+// A frame's head: `kind` is due, and `len` bytes of kind and body.
+#[tactic(auto, using(crate::proofs::Head::accepted_length))]
+pub fn check_frame(s: &[u8], kind: u16, len: u16) -> Result<(), FrameError>
+    ensures value { result ≡ check_frame kind len s.now }
+    ensures len { IfOk result (λ _. length s.now ≡ 2 + len) }
+{
+    if head_fits(s, kind, len) {
+        Ok(())
+    } else {
+        head_error(s, kind, len)
+    }
 }
 
 // The bytes of the whole frame at the start of s; 0 where there is none yet.
+#[tactic(auto, unfolding(crate::specs::Frame::whole_frame))]
 pub fn whole_frame(s: &[u8]) -> usize
     ensures value { result ≡ whole_frame s.now }
     ensures upper_bound { result ≤ length s.now }
@@ -201,7 +228,7 @@ pub fn whole_frame(s: &[u8]) -> usize
         return 0;
     }
     let n = u16_at(s, 0);
-    let bytes = 2 + widened(n);
+    let bytes = 2 + usize::from(n);
     if s.len() < bytes { 0 } else { bytes }
 }
 

@@ -5,4 +5,4 @@ use Rattle.config.proofs.default_fence.Goals as goal
 
 pub returns : goal.returns
 unfolding default_fence of_bits round neg
-returns c = rw (← c.new-made.ensures, ← c.new-fenced.ensures, ← c.and.ensures)
+returns c = rw c.held.ensures

@@ -1,33 +1,14 @@
 -- `area` meets its contract. Assumes nothing.
-use mathlib.Core.Path.{◌≡◌}
-use Prim.Native.Nat.{◌≤◌}
-use native.Mathlib.Omega.{arith}
-use lib.ListN.{length}
+use Rattle.std.proofs.Common.{◌-◌, length}
+use lib.ListN.{take, drop, drop_of_length-le}
 use Rattle.corners.specs.Acceptance.{polygon_area}
-use Rattle.corners.proofs.Laws.{side_at, side_end}
-use Rattle.corners.proofs.Places.{nowhere, take-capped}
-use Rattle.corners.proofs.Around.{place_next}
+use Rattle.corners.proofs.Places.{nowhere}
+use Rattle.corners.proofs.Around.{sides_of}
 use Rattle.corners.proofs.area.Goals as goal
-use Rattle.corners.proofs.area.Goals.{Start}
-
-long : (c : Start) → length c.args.pts ≡ 16
-long c = c.well_formed.0.1.0.1
-
-pub loop-i-preserved : goal.loop-i-preserved
-loop-i-preserved c =
-    let m = c.capped-m.result in
-    let l = c.loop-i in
-    let h = c.loop-i-test.true in
-    let r : m ≤ length c.args.pts = omega (arith, long c.before.before.before.before.before.before.before) in
-    let e = rw (side_at c.args.pts m r l.i nowhere h) at l.invariant.1 in (
-      (omega arith, omega arith),
-      rw (c.area_term-sum.ensures, c.wrapped-j.ensures, place_next l.i m h) e,
-    )
 
 pub returns : goal.returns
 unfolding polygon_area
 returns c =
-    let m = c.capped-m.result in
-    let l = c.loop-i in
-    let z = rw (side_end c.args.pts m (omega (arith, long c.before.before.before)) l.i (omega arith)) at l.invariant.1 in
-    rw (take-capped c.args.pts c.args.n (long c.before.before.before), ← c.capped-m.ensures, ← z)
+    let v = c.args.pts.now in
+    let h = rw (drop_of_length-le (take (length v - 1) (drop 1 v)) {i = c.loop-b.b-index} c.loop-b-test.false) at c.loop-b.invariant in
+    rw (sides_of v nowhere c.in-len1-up.len_at_least, ← h, c.area_term.ensures)

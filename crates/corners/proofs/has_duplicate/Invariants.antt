@@ -1,14 +1,11 @@
-use mathlib.Core.Path.{◌≡◌}
-use Prim.Native.Nat.{◌+◌, ◌*◌, ◌<◌, ◌-◌}
-use lib.ListN.{take}
-use Rattle.corners.specs.Ring.{any_meets, tails}
+use Rattle.std.proofs.Common.{◌≡◌, length}
+use Rattle.std.specs.List.{list_any}
+use Rattle.corners.specs.Ring.{tails}
 use Rattle.corners.specs.Acceptance.{recurs}
-use Rattle.corners.proofs.Pairs.{left}
 use Rattle.corners.proofs.has_duplicate.Given as goal
 
-abbrev pub invariant-loop-pts : goal.invariant-loop-pts
-invariant-loop-pts l = (l.i < l.j) × ((l.j < l.n) × (left (take l.n l.pts) l.i l.p l.j ≡ any_meets recurs (tails (take l.n l.pts))))
+abbrev pub invariant-loop-left : goal.invariant-loop-left
+invariant-loop-left l = list_any recurs (tails l.left) ≡ list_any recurs (tails l.pts)
 
--- a row is at most 16 places long
-abbrev pub decreases-loop-pts : goal.decreases-loop-pts
-decreases-loop-pts l = 17 * (l.n - l.i) + (l.n - l.j)
+abbrev pub decreases-loop-left : goal.decreases-loop-left
+decreases-loop-left l = length l.left

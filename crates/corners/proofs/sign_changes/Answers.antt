@@ -1,36 +1,19 @@
--- `sign_changes` meets its contract: what is left of the sides from i on joins to the signs so far as all sides join to none. Assumes nothing.
-use mathlib.Core.Path.{◌≡◌}
-use Prim.Native.Nat.{◌≤◌}
-use native.Mathlib.Omega.{arith}
-use lib.ListN.{length, take}
-use Rattle.corners.proofs.Laws.{side_at, side_end}
+-- `sign_changes` meets its contract. Assumes nothing.
+use Rattle.std.proofs.Common.{◌-◌, length}
+use lib.ListN.{take, drop, drop_of_length-le}
 use Rattle.corners.proofs.Places.{nowhere}
-use Rattle.corners.proofs.Around.{place_next}
-use Rattle.corners.proofs.OnceRound.{counted, grows}
+use Rattle.corners.proofs.OnceRound.{counted}
+use Rattle.corners.proofs.Around.{sides_of}
 use Rattle.corners.proofs.sign_changes.Goals as goal
-use Rattle.corners.proofs.sign_changes.Goals.{Start}
 
-long : (c : Start) → length c.args.pts ≡ 16
-long c = c.well_formed.0.1.0.1
+pub returns-in-None : goal.returns-in-None
+returns-in-None c =
+    let v = c.args.pts.now in
+    let h = rw (drop_of_length-le (take (length v - 1) (drop 1 v)) {i = c.loop-b.b-index} c.loop-b-test.false) at c.loop-b.invariant.1 in
+    rw (← counted v, sides_of v nowhere c.in-len1-up.len_at_least, ← h, ← c.north_sign-2.ensures, ← c.joined.ensures, c.in-None.is)
 
-pub loop-i-preserved : goal.loop-i-preserved
-loop-i-preserved c =
-    let l = c.loop-i in
-    let h = c.loop-i-test.true in
-    let r : c.args.n ≤ length c.args.pts = omega (arith, long c.before.before.before.before.before.before.before) in
-    let e = rw (side_at c.args.pts c.args.n r l.i nowhere h) at l.invariant.1 in (
-      (omega arith, rw c.joined-s.ensures (omega (arith, grows l.s c.north_sign.result))),
-      rw (c.joined-s.ensures, c.north_sign.ensures, c.wrapped-j.ensures, place_next l.i c.args.n h) e,
-    )
-
-pub returns-then-s : goal.returns-then-s
-returns-then-s c =
-    let l = c.loop-i in
-    let z = rw (side_end c.args.pts c.args.n (omega (arith, long c.before.before.before.before.before)) l.i (omega arith)) at l.invariant.1 in
-    rw (← counted (take c.args.n c.args.pts), ← z, c.if-s.true, c.differ.ensures)
-
-pub returns-else-s : goal.returns-else-s
-returns-else-s c =
-    let l = c.loop-i in
-    let z = rw (side_end c.args.pts c.args.n (omega (arith, long c.before.before.before)) l.i (omega arith)) at l.invariant.1 in
-    rw (← counted (take c.args.n c.args.pts), ← z, c.if-s.false)
+pub returns-in-Some : goal.returns-in-Some
+returns-in-Some c =
+    let v = c.args.pts.now in
+    let h = rw (drop_of_length-le (take (length v - 1) (drop 1 v)) {i = c.loop-b.b-index} c.loop-b-test.false) at c.loop-b.invariant.1 in
+    rw (← counted v, sides_of v nowhere c.in-len1-up.len_at_least, ← h, ← c.north_sign-2.ensures, ← c.joined.ensures, c.in-Some.is, c.differ.ensures)

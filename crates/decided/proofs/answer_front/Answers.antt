@@ -11,4 +11,4 @@ returns-then-in_flight c =
 pub returns : goal.returns
 returns c =
     let k = c.args in
-    let a = c.set_up-a in let all = stood k.session.now k.input.now k.out.now k.held.now _ a.result (sym c.in_flight.ensures ∙ c.if-in_flight.false) a.ensures.value a.ensures.out_after in record { held_after = all.0; taken_value = all.1.0; put_value = all.1.1.0; out_after = all.1.1.1.0; taken_in_bounds = all.1.1.1.1 }
+    let a = c.set_up in let all = stood k.session.now k.input.now k.out.now k.held.now _ a.result (sym c.in_flight.ensures ∙ c.if-in_flight.false) a.ensures.value a.ensures.out_after in record { held_after = all.0; taken_value = all.1.0; put_value = all.1.1.0; out_after = all.1.1.1.0; taken_in_bounds = all.1.1.1.1 }

@@ -1,46 +1,34 @@
 -- `edit_areas::place_of` meets its contract. Assumes nothing.
-use Prim.Native.Nat.{ℕ, ◌+◌, ◌-◌, ◌<◌}
-use mathlib.Core.Path.{◌≡◌, ◌∙◌, ap, refl}
+use mathlib.Core.Path.{◌≡◌, sym, ap}
 use native.Mathlib.Omega.{arith}
-use lib.Dec.{eqb}
-use Rattle.wire.specs.Fields.{u8_at}
-use Rattle.edit_areas.proofs.Cuts.{starts, ends, stops, goes, enough}
+use lib.ListN.{length, length-drop}
+use Rattle.frame_areas.specs.AreaFrame.{area_of}
+use Rattle.frame_areas.specs.AreasFrame.{bodies, held_in}
+use Rattle.frame_areas.proofs.Walk.{bytes_first, whole_first, body_back, held_sized}
+use Rattle.edit_areas.proofs.Cuts.{starts, passes}
 use Rattle.edit_areas.proofs.place_of.Goals as goal
-use Rattle.edit_areas.proofs.place_of.Goals.{In-loop-before}
+use Rattle.edit_areas.proofs.place_of.Goals.{After-into_iter-body-iterator}
 
--- a body is left
-left : (c : In-loop-before) → 0 < u8_at c.args.s.now 4 - c.loop-before._before
-left c = omega (arith, c.u8_at-before-end.ensures, c.loop-before-test.true)
+-- at the start all are left
+all_left : (c : After-into_iter-body-iterator) → bodies c.into_iter-body-iterator.result.left c.into_iter-body-iterator.result.rest.now ≡ held_in c.args.s.now
+all_left c = rw c.into_iter-body-iterator.ensures.into_iter_gives c.new-body-items.ensures
 
-pub loop-before-init : goal.loop-before-init
-loop-before-init c =
-    let all : u8_at c.args.s.now 4 - 0 ≡ u8_at c.args.s.now 4 = omega arith in
-    rw (c.smaller-at.ensures, all) (starts c.args.s.now c.args.number c.requires)
-
-pub returns-then-n-number : goal.returns-then-n-number
-returns-then-n-number c =
-    let l = c.loop-before in
-    let a = c.args in
-    let u = c.u8_at-n.ensures in
-    ap (λ (n : ℕ). record { at = l.at; held = eqb n a.number }) u
-    ∙ stops a.s.now a.number _ l.at _ l.invariant (left (goal.at.returns-then-n-number c).In-loop-before) refl (omega (arith, u, c.if-n-number.true))
+pub loop-body-init : goal.loop-body-init
+loop-body-init c =
+    ((tt, tt), rw (all_left c, c.min-at.ensures), rw (all_left c, c.min-at.ensures) (starts c.args.s.now c.args.number))
 
 pub overflow_add-at : goal.overflow_add-at
 overflow_add-at c =
-    let l = c.loop-before in
-    omega (arith, enough c.args.s.now c.args.number _ l.at c.body_size-at.result l.invariant (left (goal.at.overflow_add-at c).In-loop-before) c.body_size-at.ensures)
+    let l = c.loop-body in
+    omega (arith, (held_sized c.args.s.now).bytes, l.invariant.1, bytes_first _ _ _ _ c.in-Some.ensures.steps, length-drop 5 c.args.s.now)
 
-pub loop-before-preserved : goal.loop-before-preserved
-loop-before-preserved c =
-    let l = c.loop-before in
-    let a = c.args in
-    let one : u8_at a.s.now 4 - (l._before + 1) ≡ u8_at a.s.now 4 - l._before - 1 = omega arith in
-    rw one
-    (goes a.s.now a.number _ l.at c.body_size-at.result l.invariant (left (goal.at.loop-before-preserved c).In-loop-before) c.body_size-at.ensures
-    (omega (arith, c.u8_at-n.ensures, c.if-n-number.false)))
-
-pub returns : goal.returns
-returns c =
-    let l = c.loop-before in
-    let a = c.args in
-    ends a.s.now a.number _ l.at l.invariant (omega (arith, c.u8_at-before-end.ensures, c.loop-before-test.false))
+pub loop-body-preserved : goal.loop-body-preserved
+loop-body-preserved c =
+    let l = c.loop-body in
+    let b = c.in-Some.body.now in
+    let e = c.in-Some.ensures.steps in
+    let w = whole_first _ _ b _ e in (
+      (tt, tt),
+      omega (arith, l.invariant.1, bytes_first _ _ b _ e),
+      passes l.at c.args.number _ (area_of b) _ _ (rw e at l.invariant.2) (omega (arith, c.u8_at-n.ensures, c.if-n-number.false)) (ap length (sym (body_back b (omega (arith, w))))),
+    )

@@ -6,7 +6,7 @@ use mathlib.Core.Path.{◌≡◌, refl, ap, subst, ◌∙◌}
 use lib.ListN.{length}
 use borrow.Author.Tests.{eq-eqb, ne_eqb}
 use Rattle.wire.specs.Fields.{u8_at}
-use Rattle.wire.specs.Frame.{frame_head, room_fault, frame_written}
+use Rattle.wire.specs.Frame.{frame_head, frame_number, room_fault, frame_written}
 use Rattle.frame_areas.specs.AreaFrame.{area_frame}
 use Rattle.edit_areas.specs.Edit.{write_call}
 use Rattle.edit_areas.specs.Cut.{framed}
@@ -19,19 +19,19 @@ area_framed n b =
     let e : 3 + length b ≡ 2 + length (n ∷ b) = omega arith in
     (λ i. frame_head 7 (3 + length (append-nil b i)) ++ (n ∷ append-nil b i)) ∙ ap (λ (k : ℕ). frame_head 7 k ++ (n ∷ b)) e
 
-pub returns-then-corners-widened : goal.returns-then-corners-widened
+pub returns-then-corners-from : goal.returns-then-corners-from
 unfolding write_call
-returns-then-corners-widened c =
+returns-then-corners-from c =
     let s = c.args.corners.now in
-    let w = c.widened.ensures ∙ c.u8_at-count.ensures in
-    rw (ne_eqb (length s) (1 + 8 * u8_at s 0) (subst (λ (n : ℕ). length s ≡ 1 + 8 * n → ⊥) w c.if-corners-widened.true)) record { value = refl; output_after = refl }
+    let w = c.from.ensures ∙ c.u8_at.ensures in
+    rw (ne_eqb (length s) (1 + 8 * u8_at s 0) (subst (λ (n : ℕ). length s ≡ 1 + 8 * n → ⊥) w c.if-corners-from.true)) record { value = refl; output_after = refl }
 
 pub returns : goal.returns
 unfolding write_call
 returns c =
     let a = c.args in
     let s = a.corners.now in
-    let w = c.widened.ensures ∙ c.u8_at-count.ensures in
+    let w = c.from.ensures ∙ c.u8_at.ensures in
     let f = area_framed a.number s in
     let p = c.put_frame in
-    rw (eq-eqb (length s) (1 + 8 * u8_at s 0) (subst (λ (n : ℕ). length s ≡ 1 + 8 * n) w c.if-corners-widened.false)) record { value = p.ensures.value ∙ ap (λ (g : List ℕ). room_fault g a.output.now) f; output_after = p.ensures.output_after ∙ ap (λ (g : List ℕ). frame_written g a.output.now) f }
+    rw (eq-eqb (length s) (1 + 8 * u8_at s 0) (subst (λ (n : ℕ). length s ≡ 1 + 8 * n) w c.if-corners-from.false)) record { value = ap frame_number p.ensures.value ∙ ap (λ (g : List ℕ). room_fault g a.output.now) f; output_after = p.ensures.output_after ∙ ap (λ (g : List ℕ). frame_written g a.output.now) f }

@@ -1,11 +1,11 @@
-use mathlib.Core.Path.{◌≡◌, refl, ◌∙◌}
+use mathlib.Core.Path.{◌≡◌, ap, refl, ◌∙◌}
 use mathlib.Core.List.{List, [], ◌∷◌}
 use Prim.Native.Nat.{ℕ}
 use native.Mathlib.Omega.{arith}
 use lib.Ieee.{to_bits, of_bits}
 use lib.Seq.{sets}
 use Rattle.wire.specs.Fields.{u8_at, le8, le_flag, le_bytes, le16, le32, le_f32}
-use Rattle.wire.specs.Frame.{frame_head}
+use Rattle.wire.specs.Frame.{frame_number, frame_head}
 use Rattle.wire.proofs.Head.{room, no_room}
 use Rattle.wire.proofs.Stores.{Piece, put, after, done, into, ran}
 use Rattle.options.specs.Options.{le_option_u32}
@@ -34,7 +34,7 @@ pub returns-then-state-lt306 : goal.returns-then-state-lt306
 unfolding fresh_call
 returns-then-state-lt306 c =
     let n = no_room (wide_state_frame fresh_supervisor) c.args.state.now 306 (state_laws.size fresh_supervisor) c.if-state-lt306.true in
-    record { value = n.0; state_after = n.1 }
+    record { value = ap frame_number n.0; state_after = n.1 }
 
 pub returns : goal.returns
 unfolding fresh_call
@@ -42,4 +42,4 @@ returns c =
     let a = c.args in
     let l = a.state.now in
     let r = room (wide_state_frame fresh_supervisor) l 306 (state_laws.size fresh_supervisor) (let e = c.if-state-lt306.false in omega arith) in
-    record { value = r.0; state_after = ran l pieces _ (into c.put_head.ensures (into c.put_zeros.ensures done)) ∙ flat l ∙ r.1 }
+    record { value = ap frame_number r.0; state_after = ran l pieces _ (into c.put_head.ensures (into c.put_zeros.ensures done)) ∙ flat l ∙ r.1 }

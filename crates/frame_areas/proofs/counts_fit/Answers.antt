@@ -1,44 +1,38 @@
 -- `frame_areas::counts_fit` meets its contract. Assumes nothing.
-use Prim.Native.Nat.{ℕ, ◌≤◌}
-use mathlib.Core.Path.{◌≡◌, ◌∙◌, refl, sym}
-use mathlib.Core.Bool.{Bool, true, false}
-use mathlib.Core.List.{List}
-use lib.Dec.{eqb}
+use mathlib.Core.Path.{◌≡◌, ◌∙◌, sym, ap}
+use mathlib.Core.List.{List, []}
 use native.Mathlib.Omega.{arith}
-use lib.ListN.{length, drop, length-drop}
-use borrow.Author.Tests.{le-ltb, lt-ltb, eq-eqb, ne_eqb, eqb-true, eqb-false}
-use Rattle.frame_areas.specs.AreasFrame.{counts_fit}
-use Rattle.frame_areas.proofs.Bodies.{fit_end, fit_stops, fit_goes}
+use lib.ListN.{length, length-drop}
+use lib.Dec.{eqb}
+use Rattle.frame_areas.specs.AreaFrame.{Sent}
+use Rattle.frame_areas.specs.AreasFrame.{bodies_of}
+use Rattle.frame_areas.proofs.Walk.{bytes_first, held_sized, fits_then, fits_else}
 use Rattle.frame_areas.proofs.counts_fit.Goals as goal
 
--- nothing is left exactly at the end
-ends : (s : List ℕ) (at : ℕ) → at ≤ length s → eqb at (length s) ≡ eqb (length (drop at s)) 0
-ends s at h = by (eqb at (length s)) refl
-  where
-    by : (t : Bool) → eqb at (length s) ≡ t → t ≡ eqb (length (drop at s)) 0
-    by true e = sym (eq-eqb (length (drop at s)) 0 (omega (arith, length-drop at s, eqb-true at (length s) e)))
-    by false e = sym (ne_eqb (length (drop at s)) 0 (λ z. eqb-false at (length s) e (omega (arith, length-drop at s, z, h))))
+no_bytes : {l : List Sent} → l ≡ [] → length (bodies_of l) ≡ 0
+unfolding bodies_of
+no_bytes e = ap (λ k. length (bodies_of k)) e
 
-pub returns-then-s-lt5 : goal.returns-then-s-lt5
-unfolding counts_fit
-returns-then-s-lt5 c = rw (lt-ltb _ 5 c.if-s-lt5.true)
+pub overflow_add-n : goal.overflow_add-n
+overflow_add-n c =
+    let h = held_sized c.args.s.now in
+    omega (arith, h.two, h.bytes, c.loop-body.invariant.1, ap length c.in-Some.ensures.steps, length-drop 5 c.args.s.now)
 
-pub loop-left-init : goal.loop-left-init
-unfolding counts_fit
-loop-left-init c = let s = c.args.s.now in (omega arith, rw (le-ltb (length s) 5 c.if-s-lt5.false, c.u8_at-left.ensures))
+pub overflow_add-bytes : goal.overflow_add-bytes
+overflow_add-bytes c =
+    let l = c.loop-body in
+    omega (arith, (held_sized c.args.s.now).bytes, l.invariant.2, bytes_first _ _ _ _ c.in-Some.ensures.steps, length-drop 5 c.args.s.now)
 
-pub returns-then-s-at : goal.returns-then-s-at
-returns-then-s-at c =
-    let l = c.loop-left in
-    sym (fit_stops c.args.s.now l.at c.body_size-size.result c.body_size-size.ensures l.left c.loop-left-test.true c.if-s-at.true) ∙ l.invariant.1
+pub returns-then-n-from : goal.returns-then-n-from
+returns-then-n-from c =
+    let l = c.loop-body in
+    let none = c.in-None.ensures.steps.0 in
+    fits_then c.args.s.now l.n l.bytes (omega (arith, l.invariant.1, ap length none)) (omega (arith, l.invariant.2, no_bytes none)) (c.if-n-from.true ∙ c.from.ensures ∙ c.u8_at.ensures)
 
-pub loop-left-preserved : goal.loop-left-preserved
-loop-left-preserved c =
-    let l = c.loop-left in
-    (omega arith, sym (fit_goes c.args.s.now l.at c.body_size-size.result c.body_size-size.ensures l.left c.loop-left-test.true c.if-s-at.false) ∙ l.invariant.1)
-
-pub returns : goal.returns
-returns c =
-    let l = c.loop-left in
-    let s = c.args.s.now in
-    ends s l.at l.invariant.0 ∙ sym (fit_end l.left (drop l.at s) c.loop-left-test.false) ∙ l.invariant.1
+pub returns-else-n-from : goal.returns-else-n-from
+returns-else-n-from c =
+    let l = c.loop-body in
+    let none = c.in-None.ensures.steps.0 in
+    let u = c.from.ensures ∙ c.u8_at.ensures in
+    ap (λ k. eqb l.n k) u
+    ∙ fits_else c.args.s.now l.n l.bytes (omega (arith, l.invariant.1, ap length none)) (omega (arith, l.invariant.2, no_bytes none)) (λ e. c.if-n-from.false (e ∙ sym u))

@@ -1,81 +1,28 @@
 -- `frame_areas::home_inside` meets its contract. Assumes nothing.
-use mathlib.Core.Path.{◌≡◌, ◌∙◌, refl, sym, ap}
-use mathlib.Core.Bool.{Bool, not}
-use Prim.Native.Nat.{◌+◌, ◌<◌, ◌≤◌}
-use native.Mathlib.Nat.{mod-eq_of_lt}
-use native.Mathlib.Omega.{arith}
-use lib.Ieee.{le}
-use lib.ListN.{length, take, drop}
-use Rattle.float32.specs.Binary32.{zero_f}
-use Rattle.corners.specs.Ring.{sides}
-use Rattle.corners.proofs.Laws.{side_at, side_end, next_last}
-use Rattle.corners.proofs.Places.{nowhere, take-capped, length-capped}
-use Rattle.types.specs.declared.Point2.{Point2}
+use Rattle.std.proofs.Common.{◌-◌, length, take, drop, sym, arith}
+use Rattle.std.proofs.lemmas.Grind.{common_steps}
+use Rattle.std.proofs.lemmas.List.{drop_more}
+use Rattle.std.proofs.Math.Bool.{or-false}
+use Rattle.corners.proofs.Places.{nowhere}
+use lib.ListN.{drop_of_length-le}
 use Rattle.geometry.specs.Polygon.{zero_point}
-use Rattle.geometry.specs.Distance.{edge_signed_distance}
-use Rattle.frame_areas.proofs.Home.{few, many, stops, goes_on}
+use Rattle.frame_areas.proofs.Home.{few, round}
 use Rattle.frame_areas.proofs.home_inside.Goals as goal
-use Rattle.frame_areas.proofs.home_inside.Goals.{Start}
 
--- home is on a side, or outward of it
-abbrev not_within : Point2 × Point2 → Bool
-not_within s = le (edge_signed_distance zero_point s) zero_f
+pub returns-in_default : goal.returns-in_default
+returns-in_default c = rw (← c.corners.ensures) (sym (few c.corners.result.now zero_point (omega arith)))
 
-long : (c : Start) → length c.args.poly.verts ≡ 16
-long c = c.well_formed.0.1.1.0.1.0.1
-
-pub returns-then-n-lt3 : goal.returns-then-n-lt3
-returns-then-n-lt3 c =
-    let v = c.args.poly.verts in
-    sym (few (take c.args.poly.len v) zero_point (omega (arith, length-capped v c.args.poly.len (long (goal.at.returns-then-n-lt3 c).Start))))
+pub returns-then-rest-lt2 : goal.returns-then-rest-lt2
+returns-then-rest-lt2 c = rw (← c.corners.ensures) (sym (few c.corners.result.now zero_point (grind (arith, common_steps))))
 
 pub returns-then-home_not_within : goal.returns-then-home_not_within
 returns-then-home_not_within c =
-    let l = c.loop-i in
-    let v = c.args.poly.verts in
-    let n = c.capped-n.result in
-    let r : n ≤ length v = omega (arith, long (goal.at.returns-then-home_not_within c).Start) in
-    let h : l.i + 1 < n = c.loop-i-test.true in
-    let e = length-capped v c.args.poly.len (long (goal.at.returns-then-home_not_within c).Start) in
-    rw (
-      many (take c.args.poly.len v) zero_point (omega arith),
-      take-capped v c.args.poly.len (long (goal.at.returns-then-home_not_within c).Start),
-      ← c.capped-n.ensures,
-    )
-    (ap not
-    (stops not_within _ (drop (l.i + 1) (sides (take n v))) _
-    (rw l.invariant.1.0 at (sym c.home_not_within.ensures ∙ c.if-home_not_within.true))
-    (rw (side_at v n r l.i nowhere l.invariant.0, mod-eq_of_lt h) at l.invariant.1.1)))
-
-pub loop-i-preserved : goal.loop-i-preserved
-loop-i-preserved c =
-    let l = c.loop-i in
-    let v = c.args.poly.verts in
-    let n = c.capped-n.result in
-    let r : n ≤ length v = omega (arith, long (goal.at.loop-i-preserved c).Start) in
-    let h : l.i + 1 < n = c.loop-i-test.true in (
-      h,
-      (
-        refl,
-        goes_on not_within _ (drop (l.i + 1) (sides (take n v))) _
-            (rw l.invariant.1.0 at (sym c.home_not_within.ensures ∙ c.if-home_not_within.false))
-            (rw (side_at v n r l.i nowhere l.invariant.0, mod-eq_of_lt h) at l.invariant.1.1),
-      ),
-    )
+    let v = c.corners.result.now in
+    let l = c.loop-b in
+    rw (← c.corners.ensures, round v zero_point (grind (arith, common_steps)), ← l.invariant, drop_more (take (length v - 1) (drop 1 v)) l.b-index nowhere c.loop-b-test.true, ← c.if-home_not_within.ensures)
 
 pub returns : goal.returns
 returns c =
-    let l = c.loop-i in
-    let v = c.args.poly.verts in
-    let n = c.capped-n.result in
-    let r : n ≤ length v = omega (arith, long (goal.at.returns c).Start) in
-    let e = length-capped v c.args.poly.len (long (goal.at.returns c).Start) in
-    let h : n ≤ l.i + 1 = omega arith in
-    rw (
-      many (take c.args.poly.len v) zero_point (omega arith),
-      take-capped v c.args.poly.len (long (goal.at.returns c).Start),
-      ← c.capped-n.ensures,
-      c.home_not_within-2.ensures,
-      l.invariant.1.0,
-    )
-    (ap not (rw (side_at v n r l.i nowhere l.invariant.0, ← next_last l.i n l.invariant.0 h, side_end v n r (l.i + 1) h) at l.invariant.1.1))
+    let v = c.corners.result.now in
+    let l = c.loop-b in
+    rw (← c.corners.ensures, round v zero_point (grind (arith, common_steps)), ← l.invariant, drop_of_length-le (take (length v - 1) (drop 1 v)) {i = l.b-index} c.loop-b-test.false, c.home_not_within-2.ensures, or-false)

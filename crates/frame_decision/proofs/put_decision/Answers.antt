@@ -32,6 +32,7 @@ unfolding decision_frame frame_head le_action le_reason le_slots le_slot le_esti
 flat l d = refl
 
 pub returns : goal.returns
+unfolding le_option_f32
 returns c =
     let a = c.args in
     ran a.s.now (pieces a.d) _
@@ -43,7 +44,7 @@ returns c =
     (into c.put_flag.ensures
     (into c.put_flag-2.ensures
     (into c.put_estimate.ensures
-    (into c.put_option_f32.ensures
+    (into c.put_option.ensures
     (into c.put_flag-3.ensures
     done))))))))))
     ∙ flat a.s.now a.d

@@ -25,14 +25,15 @@ unfolding le_estimate le_option_f32 le_f32 le32 le_bytes le_flag
 flat l e = refl
 
 pub returns : goal.returns
+unfolding le_option_f32
 returns c =
     let a = c.args in
     ran a.s.now (pieces a.e) _
     (into c.put_f32.ensures
     (into c.put_f32-2.ensures
     (into c.put_f32-3.ensures
-    (into c.put_option_f32.ensures
-    (into c.put_option_f32-2.ensures
+    (into c.put_option.ensures
+    (into c.put_option-2.ensures
     (into c.put_flag.ensures
     done))))))
     ∙ flat a.s.now a.e

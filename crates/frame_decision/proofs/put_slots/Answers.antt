@@ -43,7 +43,7 @@ pub loop-i-preserved : goal.loop-i-preserved
 loop-i-preserved c =
     let a = c.args in
     let at = c.loop-i in
-    c.put_slot.ensures ∙ (λ j. laid (at.invariant j) (7 + 3 * at.i) (le_slot (get_or a.a.reqs at.i None))) ∙ next _ a.a.reqs at.i (omega arith)
+    c.put_slot.ensures ∙ (λ j. laid (at.invariant j) (7 + 3 * at.i) (le_slot (get_or a.a.reqs (c.from.ensures j) None))) ∙ next _ a.a.reqs at.i (omega arith)
 
 pub returns : goal.returns
 returns c =

@@ -42,19 +42,24 @@ module _ (s : List ℕ) (i : ℕ) where
   unfolding slot_valid valid_option
   neither p q = simp (ne_eqb (u8_at s i) 0 p, ne_eqb (u8_at s i) 1 q)
 
-pub returns-then-flag-eq0 : goal.returns-then-flag-eq0
-returns-then-flag-eq0 c =
+pub returns-in-0 : goal.returns-in-0
+returns-in-0 c =
     let a = c.args in
-    ap (λ (n : ℕ). eqb n 0) c.u16_at.ensures ∙ sym (absent a.s.now a.at (sym c.u8_at-flag.ensures ∙ c.if-flag-eq0.true))
+    let s = a.s.now in
+    let e : c.u8_at.result ≡ u8_at s a.at = c.u8_at.ensures ∙ ap (u8_at s) c.from-at.ensures in
+    ap (λ (n : ℕ). eqb n 0) (c.u16_at.ensures ∙ (λ j. u16_at s (c.from-at.ensures j + 1))) ∙ sym (absent s a.at (sym e ∙ c.in-0.is))
 
-pub returns-then-flag-eq1 : goal.returns-then-flag-eq1
-returns-then-flag-eq1 c =
+pub returns-in-1 : goal.returns-in-1
+returns-in-1 c =
     let a = c.args in
-    (λ j. c.byte_below.ensures j && c.byte_below-then-flag-eq1.ensures j)
-    ∙ sym (present a.s.now a.at (sym c.u8_at-flag.ensures ∙ c.if-flag-eq1.true))
+    let s = a.s.now in
+    let e : c.u8_at.result ≡ u8_at s a.at = c.u8_at.ensures ∙ ap (u8_at s) c.from-at.ensures in
+    (λ j. c.byte_below.ensures j && c.byte_below-in-1.ensures j)
+    ∙ (λ j. byte_below s (c.from-at.ensures j + 1) 19 && byte_below s (c.from-at.ensures j + 2) 5)
+    ∙ sym (present s a.at (sym e ∙ c.in-1.is))
 
-pub returns-else-flag-eq1 : goal.returns-else-flag-eq1
-returns-else-flag-eq1 c =
+pub returns-in_default : goal.returns-in_default
+returns-in_default c =
     let a = c.args in
-    let e = c.u8_at-flag.ensures in
-    sym (neither a.s.now a.at (λ h. c.if-flag-eq0.false (e ∙ h)) (λ h. c.if-flag-eq1.false (e ∙ h)))
+    let e : c.u8_at.result ≡ u8_at a.s.now a.at = c.u8_at.ensures ∙ ap (u8_at a.s.now) c.from-at.ensures in
+    sym (neither a.s.now a.at (λ h. omega (arith, e)) (λ h. omega (arith, e)))

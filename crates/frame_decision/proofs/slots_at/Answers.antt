@@ -17,4 +17,4 @@ unfolding slots_at
 loop-i-preserved c =
     let l = c.loop-i in
     let h : l.i < length l.reqs = omega arith in
-    (simp length-set l.invariant.0, rw (add-one, take-suc-set, c.slot_at.ensures, l.invariant.1))
+    (simp length-set l.invariant.0, rw (c.from.ensures, add-one, take-suc-set, c.slot_at.ensures, l.invariant.1))

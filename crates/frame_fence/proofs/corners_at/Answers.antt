@@ -12,10 +12,8 @@ loop-i-preserved c =
     let a = c.args in
     let l = c.loop-i in
     let m = corners_at a.s.now a.at a.n in
-    let e = length-corners a.s.now a.at a.n in (
-      omega arith,
-      rw (l.invariant.1, c.point_at-p.ensures, ← corner_at a.s.now a.at a.n l.i nowhere (omega arith)) (store m zero_point l.i nowhere (omega arith) (omega arith)),
-    )
+    let e = length-corners a.s.now a.at a.n in
+    rw (l.invariant, c.point_at.ensures, ← corner_at a.s.now a.at a.n l.i nowhere (omega arith)) (store m zero_point l.i nowhere (omega arith) (omega arith))
 
 pub returns : goal.returns
 unfolding corner_array
@@ -23,4 +21,4 @@ returns c =
     let a = c.args in
     let l = c.loop-i in
     let e = length-corners a.s.now a.at a.n in
-    rw (l.invariant.1, e) (stored (corners_at a.s.now a.at a.n) zero_point l.i a.n e (omega arith))
+    rw (l.invariant, e) (stored (corners_at a.s.now a.at a.n) zero_point l.i a.n e (omega arith))

@@ -1,4 +1,4 @@
-use Prim.Native.Nat.{◌-◌, ◌≤◌}
+use Prim.Native.Nat.{◌-◌}
 use mathlib.Core.Path.{◌≡◌}
 use mathlib.Core.List.{◌++◌}
 use lib.ListN.{take, replicate}
@@ -7,7 +7,4 @@ use Rattle.frame_fence.specs.FenceFrame.{corners_at}
 use Rattle.frame_fence.proofs.corners_at.Given as goal
 
 abbrev pub invariant-loop-i : goal.invariant-loop-i
-invariant-loop-i l = (l.i ≤ l.n) × (l.corners ≡ take l.i (corners_at l.s l.at l.n) ++ replicate (16 - l.i) zero_point)
-
-abbrev pub decreases-loop-i : goal.decreases-loop-i
-decreases-loop-i l = l.n - l.i
+invariant-loop-i l = l.corners ≡ take l.i (corners_at l.s l.at l.n) ++ replicate (16 - l.i) zero_point

@@ -1,4 +1,3 @@
-use Prim.Native.Nat.{◌-◌, ◌≤◌}
 use mathlib.Core.Path.{◌≡◌}
 use lib.ListN.{take}
 use lib.Seq.{sets}
@@ -6,7 +5,4 @@ use Rattle.frame_fence.proofs.Bytes.{corner_bytes}
 use Rattle.frame_fence.proofs.put_corners.Given as goal
 
 abbrev pub invariant-loop-i : goal.invariant-loop-i
-invariant-loop-i l = (l.i ≤ l.n) × (l.s ≡ sets l.initial.s 13 (corner_bytes (take l.i l.corners)))
-
-abbrev pub decreases-loop-i : goal.decreases-loop-i
-decreases-loop-i l = l.n - l.i
+invariant-loop-i l = l.s ≡ sets l.initial.s 13 (corner_bytes (take l.i l.corners))

@@ -29,17 +29,17 @@ flat s once n x y l = refl
 
 pub returns : goal.returns
 returns c =
-    let a = c.args in
-    let l = a.s.now in
+    let q = c.args.r.now in
+    let l = c.args.s.now in
     let kind = c.fence_kind in
     let due = c.length_due in
-    let n = c.widened in
-    ran l (pieces kind.result due.result a.count a.min_alt_m a.max_alt_m (take n.result a.corners)) _
+    let n = c.from in
+    ran l (pieces kind.result due.result q.count q.min_alt_m q.max_alt_m (take n.result q.corners)) _
     (into c.put_head.ensures
     (into c.put_u8.ensures
     (into c.put_f32.ensures
     (into c.put_f32-2.ensures
     (into c.put_corners.ensures
     done)))))
-    ∙ (λ j. after l (pieces (kind.ensures j) (due.ensures j) a.count a.min_alt_m a.max_alt_m (take (n.ensures j) a.corners)))
-    ∙ flat l a.once_round a.count a.min_alt_m a.max_alt_m a.corners
+    ∙ (λ j. after l (pieces (kind.ensures j) (due.ensures j) q.count q.min_alt_m q.max_alt_m (take (n.ensures j) q.corners)))
+    ∙ flat l q.once_round q.count q.min_alt_m q.max_alt_m q.corners

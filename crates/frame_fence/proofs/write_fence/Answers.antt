@@ -1,38 +1,37 @@
 -- `frame_fence::write_fence` meets its contract. Assumes nothing.
 use Prim.Native.Nat.{◌+◌, ◌*◌}
-use mathlib.Core.Path.{◌≡◌, ◌∙◌}
+use mathlib.Core.Path.{◌≡◌, ◌∙◌, ap}
 use native.Mathlib.Omega.{arith}
 use lib.ListN.{length}
+use borrow.Author.Rules.{rules}
 use borrow.Author.Tests.{lt-ltb, le-ltb}
+use Rattle.std.specs.Result.{result_map_both}
 use Rattle.wire.proofs.Head.{room, no_room}
-use Rattle.frame_fence.specs.FenceFrame.{fence_frame, write_fault, fence_written}
+use Rattle.frame_fence.specs.declared.WriteError.{WriteError}
+use Rattle.frame_fence.specs.FenceFrame.{frame_of, check_write, fence_written}
 use Rattle.frame_fence.proofs.Bytes.{size}
 use Rattle.frame_fence.proofs.write_fence.Goals as goal
 
-pub returns-then-count-gt16 : goal.returns-then-count-gt16
-unfolding write_fault fence_written
-returns-then-count-gt16 c =
-    let t = lt-ltb 16 c.args.count (omega arith) in
+pub returns-then-r-gt16 : goal.returns-then-r-gt16
+unfolding check_write fence_written
+returns-then-r-gt16 c =
+    let t = lt-ltb 16 c.args.r.now.count (omega arith) in
     (simp t, simp t)
 
-pub returns-then-s-widened : goal.returns-then-s-widened
-unfolding write_fault fence_written
-returns-then-s-widened c =
-    let a = c.args in
-    let f = fence_frame a.once_round a.count a.min_alt_m a.max_alt_m a.corners in
-    let long : length a.corners ≡ 16 = c.well_formed.1.1.1.1.1.0.1.0.1 in
-    let w = c.widened.ensures in
-    let r = no_room f a.s.now (13 + 8 * a.count) (size a.once_round a.count a.min_alt_m a.max_alt_m a.corners (omega arith)) (omega arith) in
-    let t = le-ltb 16 a.count (omega arith) in
-    (simp t r.0, simp t r.1)
+pub returns-then-s-from : goal.returns-then-s-from
+unfolding check_write fence_written
+returns-then-s-from c =
+    let q = c.args.r.now in
+    let long : length q.corners ≡ 16 = search rules in
+    let r = no_room (frame_of q) c.args.s.now (13 + 8 * q.count) (size q.once_round q.count q.min_alt_m q.max_alt_m q.corners (omega arith)) (omega arith) in
+    let t = le-ltb 16 q.count (omega arith) in
+    (simp t (ap (result_map_both (λ x. x) WriteError.Frame) r.0), simp t r.1)
 
 pub returns : goal.returns
-unfolding write_fault fence_written
+unfolding check_write fence_written
 returns c =
-    let a = c.args in
-    let f = fence_frame a.once_round a.count a.min_alt_m a.max_alt_m a.corners in
-    let long : length a.corners ≡ 16 = c.well_formed.1.1.1.1.1.0.1.0.1 in
-    let w = c.widened.ensures in
-    let r = room f a.s.now (13 + 8 * a.count) (size a.once_round a.count a.min_alt_m a.max_alt_m a.corners (omega arith)) (omega arith) in
-    let t = le-ltb 16 a.count (omega arith) in
-    (simp t r.0, simp t (c.put_fence.ensures ∙ r.1))
+    let q = c.args.r.now in
+    let long : length q.corners ≡ 16 = search rules in
+    let r = room (frame_of q) c.args.s.now (13 + 8 * q.count) (size q.once_round q.count q.min_alt_m q.max_alt_m q.corners (omega arith)) (omega arith) in
+    let t = le-ltb 16 q.count (omega arith) in
+    (simp t (ap (result_map_both (λ x. x) WriteError.Frame) r.0), simp t (c.put_fence.ensures ∙ r.1))

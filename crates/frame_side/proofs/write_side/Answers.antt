@@ -7,7 +7,7 @@ use Rattle.wire.specs.Frame.{frame_head}
 use Rattle.wire.proofs.Head.{room, no_room}
 use Rattle.frame_side.specs.SideFrame.{side_frame}
 use Rattle.frame_side.proofs.Size.{size}
-use Rattle.frame_side.proofs.Written.{side_written}
+use Rattle.frame_side.proofs.Written.{side_put}
 use Rattle.frame_side.proofs.write_side.Goals as goal
 
 pub returns-then-s-lt96 : goal.returns-then-s-lt96
@@ -18,10 +18,10 @@ returns-then-s-lt96 c =
 pub returns : goal.returns
 returns c =
     let a = c.args in
-    let w = c.write_decision.ensures.1 in
+    let w = c.put_decision.ensures in
     let r = room (side_frame a.d a.side) a.s.now 96 (size a.d a.side) (omega arith) in (
       r.0,
       c.put_side.ensures
           ∙ (λ i. sets (sets (sets (w i) 0 (frame_head 6 94)) 94 (le8 a.side)) 95 (le_flag a.d.disarm_eligible))
-          ∙ side_written a.d a.side a.s.now (omega arith),
+          ∙ side_put a.d a.side a.s.now (omega arith),
     )

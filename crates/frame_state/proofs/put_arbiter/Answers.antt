@@ -23,11 +23,12 @@ unfolding le_arbiter le_action le_reason le_option_u32 le8 le32 le_bytes le_flag
 flat l a = refl
 
 pub returns : goal.returns
+unfolding le_option_u32
 returns c =
     let a = c.args in
     ran a.s.now (pieces a.a) _
     (into c.put_action.ensures
     (into c.put_reason.ensures
-    (into c.put_option_u32.ensures
+    (into c.put_option.ensures
     done)))
     ∙ flat a.s.now a.a

@@ -11,7 +11,7 @@ use Rattle.wire.proofs.Laid.{zeroed}
 use Rattle.wire.proofs.Over.{over_present}
 use Rattle.wire.proofs.Stores.{Piece, put, after, done, into, ran}
 use Rattle.options.specs.Options.{le_option_u32}
-use Rattle.options.specs.Position.{le_vec3, le_option_position}
+use Rattle.options.specs.Position.{le_vec3, le_position, le_option_position}
 use Rattle.options.specs.Enums.{le_action, le_reason}
 use Rattle.triggers.specs.declared.TriggerState.{TriggerState}
 use Rattle.supervisor.specs.declared.Supervisor.{Supervisor}
@@ -46,20 +46,21 @@ pub put_triggers-requires : goal.put_triggers-requires
 put_triggers-requires c = zeroed c.put_head.new.s 4 129 c.put_zeros.ensures
 
 pub returns : goal.returns
+unfolding le_option_u32 le_option_position le_position
 returns c =
     let a = c.args in
-    ran a.s.now (pieces c.state_kind-kind.result c.state_length-len.result a.keeps a.x) _
+    ran a.s.now (pieces c.state_kind.result c.state_length.result a.keeps a.x) _
     (into c.put_head.ensures
     (into (over_present le_triggers 4 129 _ wide c.put_zeros.ensures c.put_triggers.ensures refl)
     (into c.put_arbiter.ensures
-    (into c.put_option_u32.ensures
-    (into c.put_option_position.ensures
+    (into c.put_option.ensures
+    (into c.put_option-2.ensures
     (into c.put_u8.ensures
-    (into c.put_option_u32-2.ensures
+    (into c.put_option-3.ensures
     (into c.put_u32.ensures
     (into c.put_u8-2.ensures
     (into c.put_flag.ensures
     (into c.put_kept.ensures
     done)))))))))))
-    ∙ (λ i. after a.s.now (pieces (c.state_kind-kind.ensures i) (c.state_length-len.ensures i) a.keeps a.x))
+    ∙ (λ i. after a.s.now (pieces (c.state_kind.ensures i) (c.state_length.ensures i) a.keeps a.x))
     ∙ flat a.s.now a.keeps a.x

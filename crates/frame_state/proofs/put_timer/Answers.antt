@@ -26,6 +26,6 @@ pub returns-in-Some : goal.returns-in-Some
 unfolding le_timer
 returns-in-Some c = let a = c.args in runs a.s.now a.at c.put_u8.ensures c.put_u32.ensures c.in-Some.is
 
-pub returns-in-None : goal.returns-in-None
+pub returns-in_default : goal.returns-in_default
 unfolding le_timer
-returns-in-None c = let a = c.args in rests a.s.now a.at c.in-None.is
+returns-in_default c = let a = c.args in rests a.s.now a.at c.in_default.is

@@ -1,11 +1,7 @@
-use Prim.Native.Nat.{◌-◌, ◌≤◌}
 use mathlib.Core.Path.{◌≡◌}
 use mathlib.Core.Bool.{true}
 use Rattle.frame_state.specs.StateFrame.{timers_valid}
 use Rattle.frame_state.proofs.timers_valid.Given as goal
 
 abbrev pub invariant-loop-i : goal.invariant-loop-i
-invariant-loop-i l = (l.i ≤ 24) × (timers_valid l.s l.i ≡ true)
-
-abbrev pub decreases-loop-i : goal.decreases-loop-i
-decreases-loop-i l = 24 - l.i
+invariant-loop-i l = timers_valid l.s l.i ≡ true

@@ -39,8 +39,8 @@ returns c =
     let l = a.s.now in
     let r = room (state_frame a.keeps fresh_supervisor) l _ (size a.keeps fresh_supervisor) (let e = c.state_size-size.ensures in omega arith) in (
       r.0,
-      ran l (pieces c.state_kind-kind.result c.state_length-len.result c.state_size-size.result) _ (into c.put_head.ensures (into c.put_zeros.ensures done))
-          ∙ (λ i. after l (pieces (c.state_kind-kind.ensures i) (c.state_length-len.ensures i) (c.state_size-size.ensures i)))
+      ran l (pieces c.state_kind.result c.state_length.result c.state_size-size.result) _ (into c.put_head.ensures (into c.put_zeros.ensures done))
+          ∙ (λ i. after l (pieces (c.state_kind.ensures i) (c.state_length.ensures i) (c.state_size-size.ensures i)))
           ∙ flat l a.keeps
           ∙ r.1,
     )

@@ -22,15 +22,15 @@ returns-else-sample_valid c =
     let s = c.args.s.now in
     simp (present s 37 12 c.if-f-eq1.true, sym c.sample_valid.ensures ∙ c.if-sample_valid.false)
 
-pub returns-then-f-zero12 : goal.returns-then-f-zero12
+pub returns-then-f-zero : goal.returns-then-f-zero
 unfolding u8_at option_gps_at gps_valid gps_field
-returns-then-f-zero12 c =
+returns-then-f-zero c =
     let s = c.args.s.now in
     let h = c.if-f-eq1.false in
-    let z = c.zero12 in
-    simp (tested s 37 12 _ true h z.ensures c.if-f-zero12.true, zero_sample_lem s (all_zero_lem s 37 12 _ z.ensures c.if-f-zero12.true), flag_clear s 37 h)
+    let z = c.zero in
+    simp (tested s 37 12 _ true h z.ensures c.if-f-zero.true, zero_sample_lem s (all_zero_lem s 37 12 _ z.ensures c.if-f-zero.true), flag_clear s 37 h)
 
-pub returns-else-f-zero12 : goal.returns-else-f-zero12
+pub returns-else-f-zero : goal.returns-else-f-zero
 unfolding u8_at gps_valid gps_field
-returns-else-f-zero12 c =
-    simp (tested c.args.s.now 37 12 _ false c.if-f-eq1.false c.zero12.ensures c.if-f-zero12.false)
+returns-else-f-zero c =
+    simp (tested c.args.s.now 37 12 _ false c.if-f-eq1.false c.zero.ensures c.if-f-zero.false)

@@ -15,14 +15,14 @@ returns-then-f-eq1 c =
     let e = c.if-f-eq1.true in
     simp (present s 77 4 e, flag_set s 77 e) (λ j. Ok (Some (c.word.ensures j)))
 
-pub returns-then-f-zero4 : goal.returns-then-f-zero4
+pub returns-then-f-zero : goal.returns-then-f-zero
 unfolding u8_at option_u32_at heartbeat_field
-returns-then-f-zero4 c =
+returns-then-f-zero c =
     let s = c.args.s.now in
     let h = c.if-f-eq1.false in
-    simp (tested s 77 4 _ true h c.zero4.ensures c.if-f-zero4.true, flag_clear s 77 h)
+    simp (tested s 77 4 _ true h c.zero.ensures c.if-f-zero.true, flag_clear s 77 h)
 
-pub returns-else-f-zero4 : goal.returns-else-f-zero4
+pub returns-else-f-zero : goal.returns-else-f-zero
 unfolding u8_at heartbeat_field
-returns-else-f-zero4 c =
-    simp (tested c.args.s.now 77 4 _ false c.if-f-eq1.false c.zero4.ensures c.if-f-zero4.false)
+returns-else-f-zero c =
+    simp (tested c.args.s.now 77 4 _ false c.if-f-eq1.false c.zero.ensures c.if-f-zero.false)

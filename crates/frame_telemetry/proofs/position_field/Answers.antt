@@ -16,14 +16,14 @@ returns-then-f-eq1 c =
     simp (present s 8 28 e, flag_set s 8 e)
     (λ j. Ok (Some (record { t_ms = c.word-t_ms.ensures j; pos = c.vec3-pos.ensures j; vel = c.vec3-vel.ensures j })))
 
-pub returns-then-f-zero28 : goal.returns-then-f-zero28
+pub returns-then-f-zero : goal.returns-then-f-zero
 unfolding u8_at option_position_at position_field
-returns-then-f-zero28 c =
+returns-then-f-zero c =
     let s = c.args.s.now in
     let h = c.if-f-eq1.false in
-    simp (tested s 8 28 _ true h c.zero28.ensures c.if-f-zero28.true, flag_clear s 8 h)
+    simp (tested s 8 28 _ true h c.zero.ensures c.if-f-zero.true, flag_clear s 8 h)
 
-pub returns-else-f-zero28 : goal.returns-else-f-zero28
+pub returns-else-f-zero : goal.returns-else-f-zero
 unfolding u8_at position_field
-returns-else-f-zero28 c =
-    simp (tested c.args.s.now 8 28 _ false c.if-f-eq1.false c.zero28.ensures c.if-f-zero28.false)
+returns-else-f-zero c =
+    simp (tested c.args.s.now 8 28 _ false c.if-f-eq1.false c.zero.ensures c.if-f-zero.false)

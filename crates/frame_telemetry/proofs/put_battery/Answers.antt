@@ -25,5 +25,5 @@ flat l b = refl
 pub returns : goal.returns
 returns c =
     let a = c.args in
-    ran a.s.now (pieces a.b) _ (into c.put_stamped_f32.ensures (into c.put_stamped_f32-2.ensures (into c.put_stamped_f32-3.ensures done)))
+    ran a.s.now (pieces a.b) _ (into c.put_stamped.ensures (into c.put_stamped-2.ensures (into c.put_stamped-3.ensures done)))
     ∙ flat a.s.now a.b

@@ -26,13 +26,14 @@ unfolding status_cells le_option_u32 le8 le_flag le_bytes le32
 flat l t = refl
 
 pub returns : goal.returns
+unfolding le_option_u32
 returns c =
     let a = c.args in
     ran a.s.now (pieces a.t) _
-    (into c.put_option_u32.ensures
-    (into c.put_stamped_bool.ensures
-    (into c.put_stamped_landed.ensures
-    (into c.put_stamped_bool-2.ensures
-    (into c.put_stamped_bool-3.ensures
+    (into c.put_option.ensures
+    (into c.put_stamped.ensures
+    (into c.put_stamped-2.ensures
+    (into c.put_stamped-3.ensures
+    (into c.put_stamped-4.ensures
     done)))))
     ∙ flat a.s.now a.t

@@ -1,5 +1,5 @@
 -- `frame_telemetry_trips::written_and_read` meets its contract. What is known of the floats and numbers of a Telemetry comes from its type. Assumes nothing.
-use Rattle.std.specs.Prelude.{Option, Some, None, ℕ, Float, Bool, unwrap_or}
+use Rattle.std.specs.Prelude.{Option, Some, None, ℕ, Float, Bool, unwrap_or, Ok}
 use Prim.Native.Nat.{◌<◌, ◌^◌}
 use mathlib.Core.Path.{◌≡◌, ◌∙◌, ap}
 use mathlib.Core.List.{List, ◌++◌, append-nil}
@@ -21,7 +21,7 @@ use Rattle.types.specs.declared.LandedState.{LandedState}
 use Rattle.types.specs.declared.Telemetry.{Telemetry}
 use Rattle.types.specs.Numbers.{fix_number, landed_number}
 use Rattle.wire.specs.Cell.{Within}
-use Rattle.wire.specs.Frame.{frame_written}
+use Rattle.wire.specs.Frame.{check_room, frame_written}
 use Rattle.options.specs.Position.{position_cells}
 use Rattle.frame_telemetry.specs.Readings.{gps_cells, stamped_f32_cells, stamped_bool_cells, stamped_landed_cells}
 use Rattle.frame_telemetry.specs.TelemetryFrame.{read_telemetry, battery_cells, status_cells, telemetry_cells, telemetry_frame}
@@ -111,6 +111,13 @@ room : (t : Telemetry) → frame_written (telemetry_frame t) (replicate 106 0) �
 unfolding frame_written
 room t = simp (size t) (append-nil (telemetry_frame t))
 
+fits_in : (t : Telemetry) → check_room (telemetry_frame t) (replicate 106 0) ≡ Ok tt
+unfolding check_room
+fits_in t = simp (size t)
+
+pub returns-in_err-write_telemetry : goal.returns-in_err-write_telemetry
+returns-in_err-write_telemetry c = let e = fits_in c.args.t in let w = c.write_telemetry.ensures.0 in let r = c.in_err-write_telemetry.was in cc
+
 pub returns : goal.returns
 returns c =
-    c.read_telemetry.ensures ∙ ap read_telemetry (c.write_telemetry.ensures.1 ∙ room c.args.t) ∙ value_back c.args.t (within c.before.before.before.before.before)
+    c.read_telemetry.ensures ∙ ap read_telemetry (c.write_telemetry.ensures.1 ∙ room c.args.t) ∙ value_back c.args.t (within c.before.before.before.before.before.before.before)

@@ -1,20 +1,18 @@
 -- `frame_wide::put_low` meets its contract. Assumes nothing.
-use Prim.Native.Nat.{ℕ, ◌+◌, min}
-use mathlib.Core.Path.{◌≡◌, ◌∙◌, ap}
-use mathlib.Core.List.{[], ◌∷◌}
+use Prim.Native.Nat.{◌+◌, min}
+use mathlib.Core.Path.{◌∙◌, ap}
 use mathlib.Core.Bool.{cond}
 use lib.Dec.{eqb}
-use lib.Seq.{sets}
-use Rattle.wire.specs.Fields.{u8_at, le32, number_at, le_bytes}
-use Rattle.wire.proofs.Stores.{joined}
+use lib.ListN.{take, drop}
+use Rattle.wire.specs.Fields.{u8_at, le32}
+use Rattle.frame_wide.proofs.Places.{flag_stored}
 use Rattle.frame_wide.proofs.put_low.Goals as goal
 
 pub returns : goal.returns
 unfolding u8_at le32
-returns c =
-    let s = c.args.s.now in
-    let p = c.args.p in
-    let n : c.narrow_number-number.result ≡ cond (eqb (u8_at s p) 1) c.args.x (min (number_at 8 s (p + 1)) 1) =
-    c.narrow_number-number.ensures ∙ ap (λ (k : ℕ). cond (eqb (u8_at s p) 1) c.args.x (min k 1)) c.eight_at.ensures in
-    joined c.args.to.now c.args.at (u8_at s p ∷ []) (le_bytes 4 (cond (eqb (u8_at s p) 1) c.args.x (min (number_at 8 s (p + 1)) 1))) c.put_byte.ensures
-    (c.put_four.ensures ∙ (λ j. sets c.put_byte.new.to (c.args.at + 1) (le_bytes 4 (n j))))
+returns g c =
+    let a = c.args in
+    let s = a.s.now in
+    flag_stored a.to.now (take g.row.MORE (drop (a.p + 9) s)) a.at 4 (u8_at s a.p) c.put_four.ensures
+    (c.narrow_number.ensures ∙ ap (λ (k : _). cond (eqb (u8_at s a.p) 1) a.x (min k 1)) c.eight_at.ensures)
+    c.copy.ensures

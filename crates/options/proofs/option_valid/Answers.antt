@@ -16,7 +16,7 @@ returns-then-f-eq0 c =
     let a = c.args in
     let s = a.s.now in
     simp (eq-eqb (u8_at s a.at) 0 c.if-f-eq0.true)
-    (c.zero_words.ensures ∙ ap (zeros s (a.at + 1)) c.smaller.ensures ∙ zeros_clipped s (a.at + 1) a.n (omega arith))
+    (c.zero_words.ensures ∙ ap (zeros s (a.at + 1)) c.min.ensures ∙ zeros_clipped s (a.at + 1) a.n (omega arith))
 
 pub returns-else-f-eq0 : goal.returns-else-f-eq0
 unfolding valid_option u8_at

@@ -38,14 +38,14 @@ pub loop-i-preserved : goal.loop-i-preserved
 loop-i-preserved c =
     let l = c.loop-i in
     let a = c.args in
-    (omega arith, (λ j. set (l.invariant.1 j) (a.at + l.i) 0) ∙ more a.s.now a.at l.i 1)
+    (λ j. set (l.invariant j) (a.at + l.i) 0) ∙ more a.s.now a.at l.i 1
 
 pub returns-after-loop-i : goal.returns-after-loop-i
 returns-after-loop-i c =
     let l = c.loop-i in
     let a = c.args in
-    let e : l.i ≡ min a.n (length a.s.now - a.at) = omega (arith, c.smaller-within.ensures) in
-    l.invariant.1 ∙ ap (λ (k : ℕ). sets a.s.now a.at (replicate k 0)) e ∙ within (ltb a.n (length a.s.now - a.at)) a.s.now a.at a.n (omega arith) refl
+    let e : l.i ≡ min a.n (length a.s.now - a.at) = omega (arith, c.min-i-end.ensures) in
+    l.invariant ∙ ap (λ (k : ℕ). sets a.s.now a.at (replicate k 0)) e ∙ within (ltb a.n (length a.s.now - a.at)) a.s.now a.at a.n (omega arith) refl
 
 pub returns-else-at-s : goal.returns-else-at-s
 returns-else-at-s c = let a = c.args in sym (sets_past a.s.now a.at (replicate a.n 0) c.if-at-s.false)

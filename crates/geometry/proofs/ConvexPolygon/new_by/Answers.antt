@@ -1,10 +1,7 @@
 -- `ConvexPolygon::new_by` meets its contract. Assumes nothing.
-use Rattle.corners.specs.Acceptance.{judged}
-use Rattle.corners.proofs.Places.{take-capped}
-use Rattle.geometry.specs.Polygon.{polygon_new}
+use Rattle.std.proofs.Common.{sym, ◌∙◌}
+use Rattle.corners.proofs.Callers.{judged_fits}
 use Rattle.geometry.proofs.ConvexPolygon.new_by.Goals as goal
 
-pub returns : goal.returns
-unfolding polygon_new judged
-returns c =
-    rw (c.normalize_ccw-poly.ensures, c.capped-m.ensures, ← take-capped c.args.pts c.args.n c.well_formed.0.1.0.1, c.judge-judged.ensures)
+pub normalize_ccw-requires : goal.normalize_ccw-requires
+normalize_ccw-requires c = judged_fits c.args.once_round c.args.pts.now c.in_ok-area.area (sym c.judge.ensures ∙ c.in_ok-area.was)

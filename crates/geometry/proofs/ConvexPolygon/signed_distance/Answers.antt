@@ -6,4 +6,4 @@ use Rattle.geometry.proofs.Nearest.{nearest_distance}
 use Rattle.geometry.proofs.ConvexPolygon.signed_distance.Goals as goal
 
 pub returns : goal.returns
-returns c = ap (λ (d : FenceDistance). d.m) c.nearest-near.ensures ∙ nearest_distance (ring_of c.args.self) c.args.p
+returns c = ap (λ (d : FenceDistance). d.m) c.nearest.ensures ∙ nearest_distance (ring_of c.args.self.now) c.args.p

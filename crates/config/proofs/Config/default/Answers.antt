@@ -1,9 +1,0 @@
--- `config::Config::default` meets its contract. Assumes nothing.
-use mathlib.Core.Path.{refl}
-use lib.Ieee.{of_bits, round}
-use Rattle.config.specs.Default.{default_config}
-use Rattle.config.proofs.Config.default.Goals as goal
-
-pub returns : goal.returns
-unfolding default_config of_bits round
-returns c = refl

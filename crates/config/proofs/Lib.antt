@@ -1,0 +1,2 @@
+-- What the Rust's constructors say of the default fence.
+pub mod Default

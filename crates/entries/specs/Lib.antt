@@ -1,0 +1,2 @@
+-- The definitions that the contracts of `entries` cite.
+pub mod Errors

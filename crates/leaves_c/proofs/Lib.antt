@@ -1,0 +1,2 @@
+-- The frame of a fence's sixteen places.
+pub mod Sixteen

@@ -1,7 +1,0 @@
--- `telemetry_reader::fix_at` meets its contract. Assumes nothing.
-use Rattle.frame_telemetry.specs.Readings.{fix_at}
-use Rattle.telemetry_reader.proofs.fix_at.Goals as goal
-
-pub returns : goal.returns
-unfolding fix_at
-returns c = simp (c.unwrap_or.ensures, c.try_from.ensures, c.u8_at.ensures)
