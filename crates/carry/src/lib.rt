@@ -37,20 +37,14 @@ impl Reading {
     fn aged(self, x: u32) -> bool
         ensures { result ≡ at_most (age wrapping self.last x) self.t }
     {
-        match time::age_ms(self.last, x) {
-            Some(age) => u64::from(age) <= self.t,
-            None => false,
-        }
+        time::age_ms(self.last, x).is_some_and(|age| u64::from(age) <= self.t)
     }
 
     // An instant that is not held turns nothing away.
     fn has_age(self, held: Option<u32>) -> bool
         ensures { result ≡ has_age_at self.t self.last held }
     {
-        match held {
-            Some(x) => self.aged(x),
-            None => true,
-        }
+        held.is_none_or(|x| self.aged(x))
     }
 
     // t minus an instant's age, and 0 where the age is larger.

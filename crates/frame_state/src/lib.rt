@@ -158,10 +158,7 @@ fn finite_vec(v: Vec3) -> bool
 fn finite_stored(o: Option<PositionSample>) -> bool
     ensures { result ≡ finite_stored o }
 {
-    match o {
-        Some(p) => finite_vec(p.pos) & finite_vec(p.vel),
-        None => true,
-    }
+    o.is_none_or(|p| finite_vec(p.pos) & finite_vec(p.vel))
 }
 
 // No test is made after one that fails.

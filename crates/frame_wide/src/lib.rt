@@ -87,10 +87,7 @@ fn copy<const N: usize>(to: &mut [u8], at: usize, s: &[u8], p: usize)
 fn narrow_number(held: bool, x: u32, n: u64) -> u32
     ensures { result ≡ cond held x (min n 1) }
 {
-    if held {
-        return x;
-    }
-    if n == 0 { 0 } else { 1 }
+    if held { x } else { n.min(1) as u32 }
 }
 
 fn wide_number(held: bool, x: u64, y: u64) -> u64

@@ -4,6 +4,7 @@ use Rattle.std.specs.Prelude.{Float}
 use mathlib.Core.Bool.{and-true, and-false}
 use borrow.Author.Tests.{le-ltb}
 use Rattle.types.specs.declared.Telemetry.{Telemetry}
+use Rattle.merge.specs.declared.Standing.{Standing}
 use Rattle.validate.specs.Bounds.{position_ok, gps_ok, percent_ok, remaining_ok, keep, validate_telemetry}
 use Rattle.merge.specs.Choice.{younger, second_of_two, second_taken, standing, chosen}
 use Rattle.merge.specs.Merge.{always, merge_battery, merge_telemetry}
@@ -15,13 +16,17 @@ never_younger : (x : Option ℕ) → younger x x ≡ false
 never_younger None = refl
 never_younger (Some n) = le-ltb n n (omega arith)
 
-tied : (p k : Bool) (x : Option ℕ) → second_taken (stands p k x) (stands p k x) ≡ false
+tied : (k : Bool) (x : Option ℕ) → second_taken (stands k x) (stands k x) ≡ false
 unfolding second_of_two second_taken
-tied false k x = refl
-tied true true x = never_younger x
-tied true false x = never_younger x
+tied true x = never_younger x
+tied false x = never_younger x
 
-by_age_lem : (k : Bool) (x y : Option ℕ) → second_taken (stands true k x) (stands true k y) ≡ younger y x
+of_itself : (a : Option Standing) → second_taken a a ≡ false
+unfolding second_taken
+of_itself None = refl
+of_itself (Some s) = tied s.kept s.age
+
+by_age_lem : (k : Bool) (x y : Option ℕ) → second_taken (stands k x) (stands k y) ≡ younger y x
 unfolding second_of_two second_taken
 by_age_lem true x y = refl
 by_age_lem false x y = refl
@@ -30,14 +35,14 @@ pub rule : Rule
 unfolding second_of_two second_taken
 rule =
     record {
-      absent_second = λ k l x y. refl;
-      absent_first = λ k l x y. refl;
+      absent_second = λ a. refl;
+      absent_first = λ b. refl;
       dropped_second = λ x y. refl;
       dropped_first = λ x y. refl;
       younger = λ k m n. by_age_lem k (Some m) (Some n);
       ageless_second = λ k m. by_age_lem k (Some m) None;
       ageless_first = λ k n. by_age_lem k None (Some n);
-      tie = λ a. tied a.present a.kept a.age;
+      tie = of_itself;
     }
 
 -- ---- one reading
@@ -63,8 +68,7 @@ unfolding chosen second_taken standing
 present stamp kept now None None = refl
 present stamp kept now None (Some n) = refl
 present stamp kept now (Some m) None = refl
-present stamp kept now (Some m) (Some n) =
-    both_present (second_of_two (standing stamp now (Some m) (kept (Some m))) (standing stamp now (Some n) (kept (Some n)))) m n
+present stamp kept now (Some m) (Some n) = both_present _ m n
 
 from_both : {A : Type 0} (stamp : A → ℕ) (kept : Option A → Bool) (now : ℕ) (a b : Option A) → FromBoth (chosen stamp kept now a b) a b
 from_both stamp kept now a b =

@@ -6,24 +6,24 @@ use Rattle.merge.specs.declared.Standing.{Standing}
 use Rattle.merge.specs.Choice.{second_taken}
 use Rattle.merge.specs.Merge.{always}
 
-abbrev pub stands : Bool → Bool → Option ℕ → Standing
-stands present kept age = record { present = present; kept = kept; age = age }
+abbrev pub stands : Bool → Option ℕ → Option Standing
+stands kept age = Some (record { kept = kept; age = age })
 
 -- the sentences of the rule, one by one
 pub record Rule : Type 0 where
   -- "a present one beats an absent one"
-  pub absent_second : (k l : Bool) (x y : Option ℕ) → second_taken (stands true k x) (stands false l y) ≡ false
-  pub absent_first : (k l : Bool) (x y : Option ℕ) → second_taken (stands false k x) (stands true l y) ≡ true
+  pub absent_second : (a : Option Standing) → second_taken a None ≡ false
+  pub absent_first : (b : Standing) → second_taken None (Some b) ≡ true
   -- one that is dropped "loses to one it would keep, before age is looked at"
-  pub dropped_second : (x y : Option ℕ) → second_taken (stands true true x) (stands true false y) ≡ false
-  pub dropped_first : (x y : Option ℕ) → second_taken (stands true false x) (stands true true y) ≡ true
+  pub dropped_second : (x y : Option ℕ) → second_taken (stands true x) (stands false y) ≡ false
+  pub dropped_first : (x y : Option ℕ) → second_taken (stands false x) (stands true y) ≡ true
   -- "of two the younger wins"
-  pub younger : (k : Bool) (m n : ℕ) → second_taken (stands true k (Some m)) (stands true k (Some n)) ≡ nat_lt n m
+  pub younger : (k : Bool) (m n : ℕ) → second_taken (stands k (Some m)) (stands k (Some n)) ≡ nat_lt n m
   -- "one with an age beats one without"
-  pub ageless_second : (k : Bool) (m : ℕ) → second_taken (stands true k (Some m)) (stands true k None) ≡ false
-  pub ageless_first : (k : Bool) (n : ℕ) → second_taken (stands true k None) (stands true k (Some n)) ≡ true
+  pub ageless_second : (k : Bool) (m : ℕ) → second_taken (stands k (Some m)) (stands k None) ≡ false
+  pub ageless_first : (k : Bool) (n : ℕ) → second_taken (stands k None) (stands k (Some n)) ≡ true
   -- "At a tie the first radio's reading is taken."
-  pub tie : (a : Standing) → second_taken a a ≡ false
+  pub tie : (a : Option Standing) → second_taken a a ≡ false
 
 -- a merged reading is the first radio's or the second's, and is present where one of theirs is
 abbrev pub FromBoth : {A : Type 0} → Option A → Option A → Option A → Type 0

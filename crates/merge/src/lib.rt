@@ -7,10 +7,9 @@ ghost use Rattle.merge.specs.Merge.{merge_battery, merge_telemetry};
 
 use types::{BatteryInputs, Telemetry, Timed};
 
-// What the rule looks at.
+// What the rule looks at in a reading that is present.
 #[derive(Clone, Copy)]
 pub struct Standing {
-    pub present: bool,
     pub kept: bool,
     pub age: Option<u32>,
 }
@@ -30,20 +29,19 @@ fn second_of_two(a: Standing, b: Standing) -> bool
     if a.kept { b.kept & wins } else { b.kept | wins }
 }
 
-fn second_taken(a: Standing, b: Standing) -> bool
+fn second_taken(a: Option<Standing>, b: Option<Standing>) -> bool
     ensures { result ≡ second_taken a b }
 {
-    b.present && (!a.present || second_of_two(a, b))
+    b.is_some_and(|second| a.is_none_or(|first| second_of_two(first, second)))
 }
 
-fn standing_of<T: Timed + Copy>(now_ms: u32, x: Option<T>, kept: bool) -> Standing
+fn standing_of<T: Timed + Copy>(now_ms: u32, x: Option<T>, kept: bool) -> Option<Standing>
     ensures { result ≡ standing T.stamp now_ms x kept }
 {
-    Standing {
-        present: x.is_some(),
+    x.map(|r| Standing {
         kept,
-        age: x.and_then(|r| time::age_ms(now_ms, r.t_ms())),
-    }
+        age: time::age_ms(now_ms, r.t_ms()),
+    })
 }
 
 // The second radio's reading where it wins, else the first's. `kept` is whether `validate_telemetry` keeps a reading.
