@@ -36,10 +36,10 @@
  *
  * Stack of a call on x86-64, the most that tests/stack measures on the sample flight beside eight areas, rounded up to a multiple
  * of 64 (a build for another processor differs):
- *   failsafe_step        4352 bytes
- *   failsafe_step_side   4352 bytes
- *   failsafe_step_areas  4352 bytes
- *   any of these on a state of kind 10 6272 bytes
+ *   failsafe_step        4032 bytes
+ *   failsafe_step_side   4032 bytes
+ *   failsafe_step_areas  4096 bytes
+ *   any of these on a state of kind 10 6016 bytes
  *   failsafe_add_area    1280 bytes
  *   failsafe_remove_area 1280 bytes
  *

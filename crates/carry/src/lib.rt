@@ -5,7 +5,8 @@ ghost use Rattle.std.specs.Prelude.{◌≡◌, ◌-◌, if◌then◌else◌};
 ghost use Rattle.time.specs.Time.{wrapping, wrapping_sub, age, at_most};
 ghost use Rattle.triggers.specs.Update.{none_raised};
 ghost use Rattle.frame_state.specs.StateFrame.{state_at};
-ghost use Rattle.carry.specs.Carry.{has_age_at, carry_error_number, carry};
+ghost use Rattle.instants.specs.Listed.{listed};
+ghost use Rattle.carry.specs.Carry.{has_age_at, carried, carry_error_number, carry};
 ghost use Rattle.carry.specs.Held.{aged, stored};
 
 // Why a state is not carried over, by its number.
@@ -83,7 +84,7 @@ fn have_ages(old: &[u8], reading: Reading) -> bool
 }
 
 // The instants in the order of the frame.
-fn instants(old: &[u8], reading: Reading) -> [u64; 30]
+fn stored(old: &[u8], reading: Reading) -> [u64; 30]
     ensures { result ≡ stored old.now reading }
 {
     let mut r = [0; 30];
@@ -95,7 +96,15 @@ fn instants(old: &[u8], reading: Reading) -> [u64; 30]
     r
 }
 
-// The instants carried over, where the state's last reading is that of `t`.
+// The instants carried over, whatever turns the state away: `carry` gives them where nothing does.
+pub fn instants(old: &[u8], last_now: u64) -> [u64; 30]
+    ensures { result ≡ listed (carried last_now (state_at old.now none_raised)) }
+{
+    let last = options::option_at(old, 175).unwrap_or(0);
+    stored(old, Reading { t: last_now, last })
+}
+
+// The same, where the state's last reading is that of `t`.
 pub fn carry(old: &[u8], t: u64) -> Result<[u64; 30], CarryError>
     ensures { result ≡ carry t (state_at old.now none_raised) }
 {
@@ -107,5 +116,5 @@ pub fn carry(old: &[u8], t: u64) -> Result<[u64; 30], CarryError>
     if !have_ages(old, reading) {
         return Err(CarryError::NoAge);
     }
-    Ok(instants(old, reading))
+    Ok(stored(old, reading))
 }

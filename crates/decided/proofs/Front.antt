@@ -37,7 +37,7 @@ pub flew : (session : Session) (input out held after kept : List ℕ) (p : Frame
     → after ≡ frame_written (fly_frames session.flight session.due session.supervisor (take session.areas held) input (length out)).written out
     → take p.areas kept ≡ (fly_frames session.flight session.due session.supervisor (take session.areas held) input (length out)).areas
     → p.taken ≤ length input → p.put ≤ length out
-    → Fronted session input out held after kept (record { session = record { due = p.due; flight = session.flight; supervisor = p.supervisor; areas = p.areas }; taken = p.taken; put = p.put })
+    → Fronted session input out held after kept (record { session = record { due = p.due; flight = session.flight; supervisor = p.supervisor; areas = p.areas; refused = session.refused }; taken = p.taken; put = p.put })
 unfolding turn put_count
 flew session input out held after kept p d e w a t u =
     let q = fly_frames session.flight session.due session.supervisor (take session.areas held) input (length out) in

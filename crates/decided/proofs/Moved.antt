@@ -4,7 +4,7 @@ use native.Mathlib.Omega.{arith}
 use native.Mathlib.Nat.{min-le_right}
 use mathlib.Core.List.{List, [], ◌∷◌, ◌++◌}
 use mathlib.Core.Path.{◌≡◌, refl, sym, ◌∙◌, ap}
-use lib.ListN.{length, take, drop, drop_of_length-le, length-take, length-drop, length-append}
+use lib.ListN.{length, take, drop, drop_of_length-le, length-take, length-drop, length-append, take-append-drop}
 use lib.Seq.{slice, paste}
 use Rattle.decided.proofs.Rest.{lent}
 use Rattle.decided.specs.Program.{moved_front}
@@ -24,6 +24,16 @@ unfolding moved_front
 moved_none from end n s e h =
     let none : slice from end s ≡ [] = drop_of_length-le (take end s) {i = from} (simp length-take (omega arith)) in
     rw none refl
+
+-- none, where they stand at the front already
+pub move_none : (end n : ℕ) (s : List ℕ) → n ≡ min end (length s) → (n ≡ length (slice 0 end s)) × (s ≡ moved_front 0 end s)
+unfolding moved_front
+move_none end n s e =
+    let len : length (slice 0 end s) ≡ min end (length s) = slice_length 0 end s ∙ omega arith in
+    (e ∙ sym len, sym (ap (λ (r : List ℕ). r ++ drop (length (take end s)) s) (sym (take_back end s)) ∙ take-append-drop (length (take end s)) s))
+
+pub move_nothing : (from end : ℕ) (s : List ℕ) → from ≡ 0 → s ≡ moved_front from end s
+move_nothing from end s z = rw z (move_none end (min end (length s)) s refl).1
 
 -- those that stand behind the place, up to the end of the slice
 pub moved : (from end n : ℕ) (s after : List ℕ) → n ≡ min end (length s) → from < n → after ≡ paste s 0 (drop from s) (n - from) → after ≡ moved_front from end s

@@ -58,7 +58,7 @@ next_front due input room h = at due h
 
 -- and its answer is the one by what is due
 next_answer : (due : Due) (s : State) (input frame : List ℕ) (room : ℕ) → 0 < next_frame due input room
-    → answer_due due s frame ≡ after_flown s.flight (answer_frame s.flight due s.supervisor s.areas frame)
+    → answer_due due s frame ≡ after_flown s (answer_frame s.flight due s.supervisor s.areas frame)
 unfolding next_frame
 next_answer Due.Config s input frame room h = absurd (omega arith)
 next_answer Due.Fence s input frame room h = absurd (omega arith)
@@ -66,39 +66,39 @@ next_answer Due.Telemetry s input frame room h = refl
 next_answer Due.AfterAreas s input frame room h = refl
 next_answer Due.Nothing s input frame room h = absurd (omega arith)
 
--- the state of a progress
-abbrev state_of : Flight → Progress → State
-state_of f p = record { due = p.due; flight = f; supervisor = p.supervisor; areas = p.areas }
+-- the state of a progress, from the state before it
+abbrev state_of : State → Progress → State
+state_of s p = record { due = p.due; flight = s.flight; supervisor = p.supervisor; areas = p.areas; refused = s.refused }
 
 -- what is written in all, with more input behind: what was written, and what is for the rest
-abbrev in_all : Flight → List ℕ → List ℕ → Progress → List ℕ
-in_all f input more p = p.written ++ written_from (state_of f p) (drop p.taken input ++ more)
+abbrev in_all : State → List ℕ → List ℕ → Progress → List ℕ
+in_all s input more p = p.written ++ written_from (state_of s p) (drop p.taken input ++ more)
 
-next_written : (f : Flight) (input more : List ℕ) (size n : ℕ) (p : Progress) → n ≡ next_of input size p → 0 < n → in_all f input more p ≡ in_all f input more (answer_next f input n p)
+next_written : (s : State) (input more : List ℕ) (size n : ℕ) (p : Progress) → n ≡ next_of input size p → 0 < n → in_all s input more p ≡ in_all s input more (answer_next s.flight input n p)
 unfolding next_of answer_next answer
-next_written f input more size n p e h =
+next_written s input more size n p e h =
     let rest = drop p.taken input in
     let front : n ≡ front_frame p.due rest = e ∙ next_front p.due rest (size - length p.written) (omega arith) in
-    let law = written_more (state_of f p) rest more n front h in
-    let same = next_answer p.due (state_of f p) rest (take n rest) (size - length p.written) (omega arith) in
+    let law = written_more (state_of s p) rest more n front h in
+    let same = next_answer p.due (state_of s p) rest (take n rest) (size - length p.written) (omega arith) in
     rw (append_assoc, ← drop-drop n p.taken input) (ap (λ (r : List ℕ). p.written ++ r) (rw same at law))
 
-frames_written : (turns : ℕ) (f : Flight) (input more : List ℕ) (size : ℕ) (p : Progress) → in_all f input more p ≡ in_all f input more (answer_frames turns f input size p)
+frames_written : (turns : ℕ) (s : State) (input more : List ℕ) (size : ℕ) (p : Progress) → in_all s input more p ≡ in_all s input more (answer_frames turns s.flight input size p)
 unfolding answer_frames
-frames_written zero f input more size p = refl
-frames_written (suc turns) f input more size p =
-    by (next_of input size p) (eqb (next_of input size p) 0) refl refl (frames_written turns f input more size (answer_next f input (next_of input size p) p))
+frames_written zero s input more size p = refl
+frames_written (suc turns) s input more size p =
+    by (next_of input size p) (eqb (next_of input size p) 0) refl refl (frames_written turns s input more size (answer_next s.flight input (next_of input size p) p))
   where
     by : (n : ℕ) (b : Bool) → n ≡ next_of input size p → eqb n 0 ≡ b
-        → in_all f input more (answer_next f input n p) ≡ in_all f input more (answer_frames turns f input size (answer_next f input n p))
-        → in_all f input more p ≡ in_all f input more (cond b p (answer_frames turns f input size (answer_next f input n p)))
+        → in_all s input more (answer_next s.flight input n p) ≡ in_all s input more (answer_frames turns s.flight input size (answer_next s.flight input n p))
+        → in_all s input more p ≡ in_all s input more (cond b p (answer_frames turns s.flight input size (answer_next s.flight input n p)))
     by n true e q next = refl
-    by n false e q next = next_written f input more size n p e (positive n (eqb-false n 0 q)) ∙ next
+    by n false e q next = next_written s input more size n p e (positive n (eqb-false n 0 q)) ∙ next
 
 fly_written : (s : State) (input more : List ℕ) (size : ℕ)
-    → (let p = fly_frames s.flight s.due s.supervisor s.areas input size in written_from s (input ++ more) ≡ in_all s.flight input more p)
+    → (let p = fly_frames s.flight s.due s.supervisor s.areas input size in written_from s (input ++ more) ≡ in_all s input more p)
 unfolding fly_frames
-fly_written s input more size = frames_written (length input) s.flight input more size (nothing_taken s.due s.supervisor s.areas)
+fly_written s input more size = frames_written (length input) s input more size (nothing_taken s.due s.supervisor s.areas)
 
 -- ---- a turn
 

@@ -2,23 +2,25 @@
 -- input ends at a frame boundary, even before the first frame, it ends and writes no more; at the first refusal it writes one kind 255 frame
 -- and ends." Document 02, L3, of kind 13: "`decide` takes at most one before each kind 3, checked when read, which holds until the next one; before the
 -- first no area is held." From the whole input to the whole output. Assumes nothing.
-use Rattle.std.specs.Prelude.{ℕ, zero, suc, ◌||◌, cond, List, [], ◌++◌, eqb, length, take, drop}
+use Rattle.std.specs.Prelude.{ℕ, zero, suc, ◌||◌, cond, List, [], ◌++◌, eqb, length, take, drop, Option}
 use Rattle.types.specs.declared.Decision.{Decision}
 use Rattle.supervisor.specs.declared.Supervisor.{Supervisor}
 use Rattle.wire.specs.Frame.{whole_frame}
 use Rattle.frame_decision.specs.DecisionFrame.{decision_frame}
 use Rattle.frame_refusal.specs.RefusalFrame.{refusal_frame}
 use Rattle.flight.specs.declared.Flight.{Flight}
+use Rattle.flight.specs.declared.FlightError.{FlightError}
 use Rattle.stream.specs.declared.Due.{Due}
 use Rattle.stream.specs.declared.Session.{Session}
 use Rattle.stream.specs.Stream.{Reply, Flown, begin, in_setup, in_flight, answer_config, answer_fence, answer_frame, end_bytes}
 
--- between two frames: what is due, the flight, its supervisor, and the areas held, as the bytes of their frame
+-- between two frames: what is due, the flight, its supervisor, the areas held, as the bytes of their frame, and why a kind 1 or 2 was refused, if one was
 pub record State : Type 0 where
   pub due : Due
   pub flight : Flight
   pub supervisor : Supervisor
   pub areas : List ℕ
+  pub refused : Option FlightError
 
 -- what a frame is answered with: the state after it, and the bytes written
 pub record Answer : Type 0 where
@@ -27,7 +29,7 @@ pub record Answer : Type 0 where
 
 -- "before the first no area is held"
 abbrev pub no_areas : Session → State
-no_areas s = record { due = s.due; flight = s.flight; supervisor = s.supervisor; areas = [] }
+no_areas s = record { due = s.due; flight = s.flight; supervisor = s.supervisor; areas = []; refused = s.refused }
 
 -- before the first frame: a kind 1 is due
 unfoldable pub begun : State
@@ -36,15 +38,15 @@ begun = no_areas begin
 abbrev pub after_setup : Reply → Answer
 after_setup a = record { after = no_areas a.after; bytes = a.bytes }
 
-abbrev pub after_flown : Flight → Flown → Answer
-after_flown f a = record { after = record { due = a.due; flight = f; supervisor = a.supervisor; areas = a.areas }; bytes = a.bytes }
+abbrev pub after_flown : State → Flown → Answer
+after_flown s a = record { after = record { due = a.due; flight = s.flight; supervisor = a.supervisor; areas = a.areas; refused = s.refused }; bytes = a.bytes }
 
 -- "a kind 1, a kind 2, then kind 3 frames", with "at most one" kind 13 "before each kind 3": a whole frame's answer, by what is due; after a refusal nothing is
 abbrev pub answer_due : Due → State → List ℕ → Answer
 answer_due Due.Config s frame = after_setup (answer_config frame)
 answer_due Due.Fence s frame = after_setup (answer_fence s.flight.cfg frame)
-answer_due Due.Telemetry s frame = after_flown s.flight (answer_frame s.flight Due.Telemetry s.supervisor s.areas frame)
-answer_due Due.AfterAreas s frame = after_flown s.flight (answer_frame s.flight Due.AfterAreas s.supervisor s.areas frame)
+answer_due Due.Telemetry s frame = after_flown s (answer_frame s.flight Due.Telemetry s.supervisor s.areas frame)
+answer_due Due.AfterAreas s frame = after_flown s (answer_frame s.flight Due.AfterAreas s.supervisor s.areas frame)
 answer_due Due.Nothing s frame = record { after = s; bytes = [] }
 
 unfoldable pub answer : State → List ℕ → Answer

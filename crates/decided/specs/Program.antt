@@ -9,7 +9,7 @@ use Rattle.decided.specs.Decided.{State, begun, answer, written_from, decided}
 
 -- the state of a session, whose areas held are the first bytes of a slice
 abbrev pub state : Session → List ℕ → State
-state s held = record { due = s.due; flight = s.flight; supervisor = s.supervisor; areas = take s.areas held }
+state s held = record { due = s.due; flight = s.flight; supervisor = s.supervisor; areas = take s.areas held; refused = s.refused }
 
 -- ---- a turn on the bytes that were read
 
@@ -28,7 +28,7 @@ one_frame s input =
 
 -- where a kind 3 is due: as many frames as an output block of so many bytes has room for
 abbrev pub flown : State → Progress → Told
-flown s p = record { after = record { due = p.due; flight = s.flight; supervisor = p.supervisor; areas = p.areas }; taken = p.taken; bytes = p.written }
+flown s p = record { after = record { due = p.due; flight = s.flight; supervisor = p.supervisor; areas = p.areas; refused = s.refused }; taken = p.taken; bytes = p.written }
 
 unfoldable pub turn : ℕ → State → List ℕ → Told
 turn size s input = cond (in_flight s.due) (flown s (fly_frames s.flight s.due s.supervisor s.areas input size)) (one_frame s input)

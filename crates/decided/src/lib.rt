@@ -46,13 +46,17 @@ pub fn answer_front(session: &Session, input: &[u8], out: &mut [u8], held: &mut 
     stream::set_up(session, input, out)
 }
 
-// Moves the bytes from `from` up to `end` to the front, and says how many they are.
-#[tactic(auto, using(crate::proofs::Moved::moved, crate::proofs::Moved::moved_none))]
+// Moves the bytes from `from` up to `end` to the front, and says how many they are. Bytes that stand there already are not touched: a frame that comes
+// in small pieces would have all its bytes moved with each of them.
+#[tactic(auto, using(crate::proofs::Moved::moved, crate::proofs::Moved::moved_none, crate::proofs::Moved::move_none, crate::proofs::Moved::move_nothing))]
 pub fn move_front(input: &mut [u8], from: usize, end: usize) -> usize
     ensures value { result ≡ length (slice from end input.old) }
     ensures input_after { input.new ≡ moved_front from end input.old }
 {
     let stop = end.min(input.len());
+    if from == 0 {
+        return stop;
+    }
     if stop <= from {
         return 0;
     }

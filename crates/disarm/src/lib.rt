@@ -35,11 +35,18 @@ fn gate_open(
         & (validate::fresh_landed(now_ms, landed, status_fresh_ms) == Some(LandedState::OnGround))
 }
 
+// The gate after a reset.
+pub fn reset_gate() -> DisarmGate
+    ensures { result ≡ closed }
+{
+    DisarmGate::default()
+}
+
 impl DisarmGate {
     pub fn reset(&mut self)
         ensures { self.new ≡ closed }
     {
-        *self = Self::default();
+        *self = reset_gate();
     }
 
     // The gate is judged by the requested action before latches.

@@ -311,15 +311,20 @@ fn step_or_check(
 {
     frame_config::check_config_frame(config)?;
     let read = frame_fence::read_fence(fence)?;
-    let flight = flight::accept_frame(&config[0..246], &read)?;
+    // The flight is lent, since `?` would copy it.
+    let accepted = flight::accept_frame(&config[0..246], &read);
+    let flight = match &accepted {
+        Ok(f) => f,
+        Err(e) => return Err(CallError::Flight(*e)),
+    };
     check_areas(areas)?;
     if checking {
         return Ok(());
     }
     if is_wide(flight.cfg.keeps_raised, state) {
-        step_wide(with_side, &flight, areas, state, telemetry, output)
+        step_wide(with_side, flight, areas, state, telemetry, output)
     } else {
-        step_state(with_side, &flight, areas, state, telemetry, output)
+        step_state(with_side, flight, areas, state, telemetry, output)
     }
 }
 

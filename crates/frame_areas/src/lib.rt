@@ -151,7 +151,7 @@ fn area_distance(body: &[u8], p: Point2) -> f32
 // ---- the areas of a frame
 
 // The bodies that are left of a frame: as many as are counted, as far as they are whole.
-#[derive(Drop)]
+#[derive(Clone, Copy)]
 pub struct Bodies<'a> {
     left: u8,
     rest: &'a [u8],

@@ -104,12 +104,12 @@ fn decision_valid(s: &[u8]) -> bool
         && wire::byte_below(s, 94, 2)
 }
 
-// The Decision of a whole frame.
+// The Decision of a whole frame. Its length is asked once more where the compiler sees it, and then no place in the frame is tested against it.
 pub fn read_decision(s: &[u8]) -> Result<Decision, FrameError>
     ensures { result ≡ read_decision s.now }
 {
     wire::check_frame(s, 4, 93)?;
-    if decision_valid(s) {
+    if s.len() == 95 && decision_valid(s) {
         Ok(decision_at(s))
     } else {
         Err(FrameError::OutOfRange)

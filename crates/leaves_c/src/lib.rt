@@ -43,14 +43,11 @@ pub extern "C" fn leaf_fresh(now: u32, stamp: u32, limit: u32) -> bool
     time::is_fresh(now, stamp, limit)
 }
 
-// A slot above 255 is no reason's.
+// A slot past the last is no reason's.
 fn reason_at(i: usize) -> Result<Reason, UnknownNumber>
     ensures { result ≡ reason_of_index i }
 {
-    match u8::try_from(i) {
-        Ok(n) => Reason::try_from(n),
-        Err(_) => Err(UnknownNumber),
-    }
+    Reason::from_index(i).ok_or(UnknownNumber)
 }
 
 #[unsafe(no_mangle)]

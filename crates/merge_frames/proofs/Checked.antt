@@ -7,9 +7,9 @@ use Rattle.std.specs.Result.{result_and}
 use Rattle.std.specs.Prelude.{Result, Ok, Err, ⊤}
 use Prim.Native.Nat.{ℕ}
 use mathlib.Core.Path.{◌≡◌, refl, sym, ap, ◌∙◌}
-use mathlib.Core.Bool.{false}
+use mathlib.Core.Bool.{Bool, true, false, cond}
 use lib.Dec.{eqb}
-use borrow.Author.Tests.{eqb-false}
+use borrow.Author.Tests.{eqb-true, eqb-false}
 use Rattle.flight.proofs.Numbers.{no_flight_zero}
 use mathlib.Core.List.{List}
 use native.Mathlib.Omega.{arith}
@@ -19,7 +19,7 @@ use Rattle.config.specs.declared.Config.{Config}
 use Rattle.frame_config.specs.ConfigFrame.{check_config_frame, keeps_raised, config_at, read_config}
 use Rattle.frame_telemetry.specs.TelemetryFrame.{read_telemetry}
 use Rattle.flight.proofs.Read.{settings_read}
-use Rattle.merge_frames.specs.Call.{declined, after_first, after_flight, merge_call, merge_accepted}
+use Rattle.merge_frames.specs.Call.{declined, after_first, after_flight, merge_call, merge_accepted, merge_checked}
 
 -- a configuration that is read is that of its bytes
 config_is : (s : List ℕ) (cfg : Config) → read_config s ≡ Ok cfg → cfg ≡ config_at s (keeps_raised s)
@@ -55,3 +55,15 @@ after_refusal config fence first second output n h z = at (read_flight config fe
     at : (r : Result Flight FlightError) → n ≡ refusal r → after_flight r first second output ≡ declined n output
     at (Ok f) e = absurd (eqb-false n 0 z e)
     at (Err x) e = ap (λ (m : ℕ). declined m output) (sym e)
+
+-- so a merge behind the check is the merge
+pub checked : (config fence first second output : List ℕ) → merge_checked (refusal (read_flight config fence)) config first second output ≡ merge_call config fence first second output
+unfolding merge_checked
+checked config fence first second output = at (eqb (refusal (read_flight config fence)) 0) refl
+  where
+    n : ℕ
+    n = refusal (read_flight config fence)
+
+    at : (b : Bool) → eqb n 0 ≡ b → cond b (merge_accepted config first second output) (declined n output) ≡ merge_call config fence first second output
+    at true e = after_0 config fence first second output (sym (eqb-true n 0 e))
+    at false e = sym (after_refusal config fence first second output n refl e)

@@ -50,6 +50,10 @@ merge_call config fence first second output = after_flight (read_flight config f
 unfoldable pub merge_accepted : List ℕ → List ℕ → List ℕ → List ℕ → MergeCall
 merge_accepted config first second output = after_first (f32_at config 5) (read_telemetry first) second output
 
+-- the same behind a check of configuration and fence, whose number this is
+unfoldable pub merge_checked : ℕ → List ℕ → List ℕ → List ℕ → List ℕ → MergeCall
+merge_checked n config first second output = cond (eqb n 0) (merge_accepted config first second output) (declined n output)
+
 -- the numbers of the refusals; 0 for none
 abbrev pub merge_error_number : MergeError → ℕ
 merge_error_number (MergeError.Frame e) = frame_error_number e

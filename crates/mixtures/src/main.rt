@@ -2,10 +2,22 @@
 // `mixture`; no contract can say what is written.
 #![tactic(auto)]
 
-use std::io;
+ghost use Rattle.std.specs.Prelude.{◌≡◌};
+ghost use Rattle.mixture.specs.Mixtures.{ends_in};
+
+use std::io::Print;
 use types::Action;
 
-fn main(rt: HostRuntime) -> io::Result<()> {
+// Writes a line, name, one space and count, and answers the count, also where the write fails.
+fn print_line<R: Print>(rt: &R, name: &str, a: Action) -> usize
+    ensures { result ≡ ends_in a }
+{
+    let count = mixture::ends_in(a);
+    let _written = println!(rt; "{name} {count}").is_ok();
+    count
+}
+
+fn main(rt: HostRuntime) {
     let actions = [
         ("Nominal", Action::Nominal),
         ("Warn", Action::Warn),
@@ -14,7 +26,6 @@ fn main(rt: HostRuntime) -> io::Result<()> {
         ("Land", Action::Land),
     ];
     for (name, action) in actions {
-        println!(rt; "{name} {}", mixture::ends_in(action))?;
+        print_line(&rt, name, action);
     }
-    Ok(())
 }

@@ -2,7 +2,7 @@
 -- input ends at a frame boundary, even before the first frame, it ends and writes no more; at the first refusal it writes one kind 255 frame
 -- and ends." Document 02, L5: "Fences come as kind 8 too": `read_fence` takes either. Document 02, L3, of keep-out areas, kind 13: "`decide` takes at most
 -- one before each kind 3, checked when read, which holds until the next one; before the first no area is held." Assumes nothing.
-use Rattle.std.specs.Prelude.{ℕ, zero, suc, ◌+◌, ◌-◌, Bool, true, false, ◌||◌, cond, List, [], ◌++◌, eqb, ltb, length, take, drop, Result, Ok, Err}
+use Rattle.std.specs.Prelude.{ℕ, zero, suc, ◌+◌, ◌-◌, Bool, true, false, ◌||◌, cond, List, [], ◌++◌, eqb, ltb, length, take, drop, Some, None, Result, Ok, Err}
 use Rattle.config.specs.declared.Config.{Config}
 use Rattle.supervisor.specs.declared.Supervisor.{Supervisor}
 use Rattle.supervisor.specs.Step.{fresh_supervisor}
@@ -28,7 +28,7 @@ use Rattle.stream.specs.declared.FramesAnswer.{FramesAnswer}
 
 -- up to the first kind 3: "before the first no area is held", so no byte of one is
 abbrev pub session : Due → Flight → Supervisor → Session
-session due f s = record { due = due; flight = f; supervisor = s; areas = 0 }
+session due f s = record { due = due; flight = f; supervisor = s; areas = 0; refused = None }
 
 -- whether a kind 1 or 2 is due, and whether a kind 3 is, with or without a kind 13 before it
 abbrev pub in_setup : Due → Bool
@@ -64,9 +64,13 @@ answered a out = record { session = a.after; put = put_count a.bytes out }
 abbrev pub silent : Session → Reply
 silent s = record { after = s; bytes = [] }
 
--- "at the first refusal it writes one kind 255 frame and ends"
-unfoldable pub refusal : ℕ → Reply
-refusal n = record { after = session Due.Nothing blank_flight fresh_supervisor; bytes = refusal_frame n }
+-- "at the first refusal it writes one kind 255 frame and ends"; the session says which refusal it was
+unfoldable pub refusal : FlightError → Reply
+refusal e =
+    record {
+      after = record { due = Due.Nothing; flight = blank_flight; supervisor = fresh_supervisor; areas = 0; refused = Some e };
+      bytes = refusal_frame (flight_error_number e);
+    }
 
 -- a kind 1 is due
 unfoldable pub begin : Session
@@ -79,7 +83,7 @@ with_config cfg =
     session Due.Fence (record { cfg = cfg; fence = f.fence; lengths = f.lengths }) fresh_supervisor
 
 abbrev pub after_config : Result Config FrameError → Reply
-after_config (Err e) = refusal (frame_error_number e)
+after_config (Err e) = refusal (FlightError.Frame e)
 after_config (Ok cfg) = silent (with_config cfg)
 
 unfoldable pub answer_config : List ℕ → Reply
@@ -90,7 +94,7 @@ abbrev pub flying : Flight → Session
 flying f = session Due.Telemetry f fresh_supervisor
 
 abbrev pub after_flight : Result Flight FlightError → Reply
-after_flight (Err e) = refusal (flight_error_number e)
+after_flight (Err e) = refusal e
 after_flight (Ok f) = silent (flying f)
 
 -- the fence frame, then the fence rules and the configuration rules

@@ -27,12 +27,14 @@ pub enum Due {
 }
 
 // `areas` is how many bytes of keep-out areas are held, in a buffer that the caller keeps: in here they would be copied with each session.
+// `refused` is why a frame of kind 1 or 2 was refused, if one was.
 #[derive(Clone, Copy)]
 pub struct Session {
     pub due: Due,
     pub flight: Flight,
     pub supervisor: Supervisor,
     pub areas: usize,
+    pub refused: Option<FlightError>,
 }
 
 // The session after a frame of kind 1 or 2, and how many bytes were put.
@@ -124,20 +126,21 @@ fn silent(session: Session) -> Answer
     Answer { session, put: 0 }
 }
 
-// A refusal is put, and ends the session.
-fn refusal(n: u16, out: &mut [u8]) -> Answer
-    ensures value { result ≡ answered (refusal n) out.old }
-    ensures out_after { out.new ≡ frame_written (refusal n).bytes out.old }
+// A refusal is put, and ends the session, which says which it was.
+fn refusal(e: FlightError, out: &mut [u8]) -> Answer
+    ensures value { result ≡ answered (refusal e) out.old }
+    ensures out_after { out.new ≡ frame_written (refusal e).bytes out.old }
 {
     let session = Session {
         due: Due::Nothing,
         flight: Flight::default(),
         supervisor: Supervisor::fresh(),
         areas: 0,
+        refused: Some(e),
     };
     Answer {
         session,
-        put: put_refusal(n, out),
+        put: put_refusal(e.number(), out),
     }
 }
 
@@ -150,6 +153,7 @@ pub fn begin() -> Session
         flight: Flight::default(),
         supervisor: Supervisor::fresh(),
         areas: 0,
+        refused: None,
     }
 }
 
@@ -165,6 +169,7 @@ fn with_config(cfg: Config) -> Session
         },
         supervisor: Supervisor::fresh(),
         areas: 0,
+        refused: None,
     }
 }
 
@@ -173,7 +178,7 @@ fn answer_config(frame: &[u8], out: &mut [u8]) -> Answer
     ensures out_after { out.new ≡ frame_written (answer_config frame.now).bytes out.old }
 {
     match frame_config::read_config(frame) {
-        Err(e) => refusal(e.number(), out),
+        Err(e) => refusal(FlightError::Frame(e), out),
         Ok(cfg) => silent(with_config(cfg)),
     }
 }
@@ -186,6 +191,7 @@ fn flying(flight: Flight) -> Session
         flight,
         supervisor: Supervisor::fresh(),
         areas: 0,
+        refused: None,
     }
 }
 
@@ -202,7 +208,7 @@ fn answer_fence(cfg: &Config, frame: &[u8], out: &mut [u8]) -> Answer
     ensures out_after { out.new ≡ frame_written (answer_fence cfg.now frame.now).bytes out.old }
 {
     match read_flight(cfg, frame) {
-        Err(e) => refusal(e.number(), out),
+        Err(e) => refusal(e, out),
         Ok(f) => silent(flying(f)),
     }
 }

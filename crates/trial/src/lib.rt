@@ -212,7 +212,8 @@ pub fn next_frame(g: Generator) -> NextFrame
     }
 }
 
-fn generator_at(s: &[u8]) -> Generator
+// The generator of any bytes; `read_generator` tells which are accepted.
+pub fn generator_at(s: &[u8]) -> Generator
     ensures { result ≡ generator_at s.now }
 {
     Generator {

@@ -3,7 +3,7 @@
 // crate `trial`; what is proved here is that the functions are safe and end.
 #![tactic(auto)]
 
-ghost use Rattle.std.specs.Prelude.{◌≡◌, length, nat_le, if◌then◌else◌, MatchOption, string_bytes, None};
+ghost use Rattle.std.specs.Prelude.{min, ◌≡◌, length, nat_le, if◌then◌else◌, MatchOption, string_bytes, None};
 ghost use Rattle.trial.specs.Decimal.{read_decimal};
 
 use std::env;
@@ -11,6 +11,13 @@ use std::io::{Eprint, Print};
 
 // The frames that a block has room for, of 106 bytes each.
 const BLOCK_FRAMES: usize = 618;
+
+// The frames of the next block, where so many are left.
+fn block_frames(left: usize) -> usize
+    ensures { result ≡ min left 618 }
+{
+    left.min(BLOCK_FRAMES)
+}
 
 // An argument that is missing or longer than 32 bytes is no number.
 fn argument(text: Option<String>) -> Option<u32>
@@ -23,25 +30,13 @@ fn argument(text: Option<String>) -> Option<u32>
     }
 }
 
-// The seed and the count, where these two are all the arguments.
-fn arguments(rt: &HostRuntime) -> Option<(u32, u32)> {
-    let mut words = env::args(rt).ok()?;
-    let _program = words.next();
-    let seed = argument(words.next())?;
-    let count = argument(words.next())?;
-    if words.next().is_some() {
-        return None;
-    }
-    Some((seed, count))
-}
-
 // Ends early where a write fails.
 fn write_frames<P: Print>(rt: &P, seed: u32, count: u32) {
     let mut block = [0; 65508];
     let mut g = trial::seeded(seed);
     let mut left = count as usize;
     for _ in 0..left.div_ceil(BLOCK_FRAMES) {
-        let n = left.min(BLOCK_FRAMES);
+        let n = block_frames(left);
         g = trial::fill(g, n, &mut block);
         if rt.write_all(&block[..106 * n]).is_err() {
             return;
@@ -57,8 +52,15 @@ fn complain<P: Eprint>(rt: &P) {
 }
 
 fn main(rt: HostRuntime) {
-    match arguments(&rt) {
-        Some((seed, count)) => write_frames(&rt, seed, count),
-        None => complain(&rt),
+    let Ok(mut words) = env::args(&rt) else {
+        complain(&rt);
+        return;
+    };
+    let _program = words.next();
+    let seed = argument(words.next());
+    let count = argument(words.next());
+    match (seed, count, words.next()) {
+        (Some(seed), Some(count), None) => write_frames(&rt, seed, count),
+        _ => complain(&rt),
     }
 }

@@ -1,5 +1,6 @@
 -- A reason's slot is below nineteen and tells the reason; each enum's byte tells its case. Assumes nothing.
-use Rattle.std.specs.Prelude.{Ok}
+use Rattle.std.specs.Prelude.{Option, Some, None, Ok, ok_or}
+use Rattle.std.specs.Result.{result_ok}
 use Prim.Native.Nat.{◌<◌}
 use mathlib.Core.Path.{◌≡◌, refl, sym, ap, ◌∙◌}
 use lib.Dec.{lit<}
@@ -7,7 +8,7 @@ use Rattle.types.specs.declared.GpsFix.{GpsFix}
 use Rattle.types.specs.declared.LandedState.{LandedState}
 use Rattle.types.specs.declared.Action.{Action}
 use Rattle.types.specs.declared.Reason.{Reason}
-use Rattle.types.specs.Numbers.{fix_number, fix_of_number, landed_number, landed_of_number, rank, action_of_rank, index, reason_of_index}
+use Rattle.types.specs.Numbers.{fix_number, fix_of_number, landed_number, landed_of_number, rank, action_of_rank, index, from_index, reason_of_index}
 
 -- a reason has a slot
 pub index_lt : (r : Reason) → index r < 19
@@ -32,26 +33,34 @@ index_lt Reason.EnergyRtlMarginal = lit< tt
 index_lt Reason.EnergyRtlInfeasible = lit< tt
 
 -- the case of a case's number is that case
+pub from_index_lem : (r : Reason) → from_index (index r) ≡ Some r
+from_index_lem Reason.None = refl
+from_index_lem Reason.ClockFault = refl
+from_index_lem Reason.InvalidInput = refl
+from_index_lem Reason.StaleBattery = refl
+from_index_lem Reason.GcsLinkLost = refl
+from_index_lem Reason.RcLost = refl
+from_index_lem Reason.GpsDegraded = refl
+from_index_lem Reason.GpsLost = refl
+from_index_lem Reason.EkfUnhealthy = refl
+from_index_lem Reason.PositionInvalid = refl
+from_index_lem Reason.FenceApproach = refl
+from_index_lem Reason.FenceBreach = refl
+from_index_lem Reason.AltitudeMax = refl
+from_index_lem Reason.AltitudeMin = refl
+from_index_lem Reason.BatteryWarn = refl
+from_index_lem Reason.BatteryLow = refl
+from_index_lem Reason.BatteryCritical = refl
+from_index_lem Reason.EnergyRtlMarginal = refl
+from_index_lem Reason.EnergyRtlInfeasible = refl
+
 pub reason_of_index_lem : (r : Reason) → reason_of_index (index r) ≡ Ok r
-reason_of_index_lem Reason.None = refl
-reason_of_index_lem Reason.ClockFault = refl
-reason_of_index_lem Reason.InvalidInput = refl
-reason_of_index_lem Reason.StaleBattery = refl
-reason_of_index_lem Reason.GcsLinkLost = refl
-reason_of_index_lem Reason.RcLost = refl
-reason_of_index_lem Reason.GpsDegraded = refl
-reason_of_index_lem Reason.GpsLost = refl
-reason_of_index_lem Reason.EkfUnhealthy = refl
-reason_of_index_lem Reason.PositionInvalid = refl
-reason_of_index_lem Reason.FenceApproach = refl
-reason_of_index_lem Reason.FenceBreach = refl
-reason_of_index_lem Reason.AltitudeMax = refl
-reason_of_index_lem Reason.AltitudeMin = refl
-reason_of_index_lem Reason.BatteryWarn = refl
-reason_of_index_lem Reason.BatteryLow = refl
-reason_of_index_lem Reason.BatteryCritical = refl
-reason_of_index_lem Reason.EnergyRtlMarginal = refl
-reason_of_index_lem Reason.EnergyRtlInfeasible = refl
+reason_of_index_lem r = ap (λ (o : Option Reason). ok_or o (record {})) (from_index_lem r)
+
+-- what is read with an error is read
+pub read_back : {E : Type 0} (o : Option Reason) (e : E) → result_ok (ok_or o e) ≡ o
+read_back None e = refl
+read_back (Some r) e = refl
 
 -- the same for the other enums with a byte
 pub fix_of_number_lem : (r : GpsFix) → fix_of_number (fix_number r) ≡ Ok r

@@ -1,5 +1,5 @@
 -- The numbers of the enums' cases. "enum a byte in declared order from 0". Assumes nothing.
-use Rattle.std.specs.Prelude.{ℕ, List, [], ◌∷◌, Result, slice_get, ok_or}
+use Rattle.std.specs.Prelude.{ℕ, List, [], ◌∷◌, Option, Result, slice_get, ok_or}
 use Rattle.types.specs.declared.GpsFix.{GpsFix}
 use Rattle.types.specs.declared.LandedState.{LandedState}
 use Rattle.types.specs.declared.Action.{Action}
@@ -77,8 +77,11 @@ abbrev pub reasons : List Reason
 reasons = Reason.None ∷ Reason.ClockFault ∷ Reason.InvalidInput ∷ Reason.StaleBattery ∷ Reason.GcsLinkLost ∷ Reason.RcLost ∷ Reason.GpsDegraded ∷ Reason.GpsLost ∷ Reason.EkfUnhealthy ∷ Reason.PositionInvalid ∷ Reason.FenceApproach ∷ Reason.FenceBreach ∷ Reason.AltitudeMax ∷ Reason.AltitudeMin ∷ Reason.BatteryWarn ∷ Reason.BatteryLow ∷ Reason.BatteryCritical ∷ Reason.EnergyRtlMarginal ∷ Reason.EnergyRtlInfeasible ∷ []
 
 -- the reason of a slot, where one has it
+abbrev pub from_index : ℕ → Option Reason
+from_index n = slice_get reasons n
+
 abbrev pub reason_of_index : ℕ → Result Reason UnknownNumber
-reason_of_index n = ok_or (slice_get reasons n) (record {})
+reason_of_index n = ok_or (from_index n) (record {})
 
 -- "highest rank, then highest display_priority"
 abbrev pub display_priority : Reason → ℕ

@@ -3,7 +3,7 @@
 
 ghost use Rattle.std.specs.Prelude.{◌≡◌, ℕ};
 ghost use Rattle.types.specs.Vec3.{alt_m, horizontal_dist_home};
-ghost use Rattle.types.specs.Numbers.{fix_number, fix_of_number, landed_number, landed_of_number, rank, action_of_rank, index, reason_of_index, display_priority};
+ghost use Rattle.types.specs.Numbers.{fix_number, fix_of_number, landed_number, landed_of_number, rank, action_of_rank, index, from_index, reason_of_index, display_priority};
 ghost use Rattle.types.specs.ActiveSet.{higher_request, empty_set, set_request, set_if, set_option, clear_request, requested_action, Highest};
 
 pub const MAX_FENCE_VERTS: usize = 16;
@@ -289,6 +289,17 @@ impl Reason {
         ensures { result ≡ index self }
     {
         self as usize
+    }
+
+    // The Rust's name: the reason of any slot, none past the last.
+    #[tactic(auto, using(crate::proofs::Slots::read_back))]
+    pub fn from_index(i: usize) -> Option<Self>
+        ensures { result ≡ from_index i }
+    {
+        match u8::try_from(i) {
+            Ok(n) => Reason::try_from(n).ok(),
+            Err(_) => None,
+        }
     }
 
     // The Rust's name and table. Among requests of the winning rank the highest of these names the reason.

@@ -1,5 +1,6 @@
--- The theorems of `whole_energy`, in Root and Bound, and what its proofs share.
+-- The theorems of `whole_energy`, in Root, Bound and Numbers, and what its proofs share.
 pub mod Root
 pub mod Bound
+pub mod Numbers
 mod Limits
 mod Sizes

@@ -22,5 +22,5 @@ returns-then-not-have_ages c =
 pub returns : goal.returns
 unfolding option_u32_at
 returns c =
-    ap (λ (l : List ℕ). Ok l) c.instants.ensures
+    ap (λ (l : List ℕ). Ok l) c.stored.ensures
     ∙ taken _ _ (sym c.option_at.ensures ∙ c.in-Some.is) (sym c.from.ensures ∙ c.if-from-t.true) (sym c.have_ages.ensures ∙ c.if-not-have_ages.false)

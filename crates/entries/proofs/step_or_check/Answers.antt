@@ -11,16 +11,16 @@ use Rattle.calls.specs.Form.{form_of}
 use Rattle.entries.proofs.Numbers.{area_number_not_0}
 use Rattle.entries.proofs.Flown.{not_keeps, config_refused, fence_refused, flight_is, refused_call, areas_refused, checked, flown}
 use Rattle.entries.proofs.step_or_check.Goals as goal
-use Rattle.entries.proofs.step_or_check.Goals.{After-accept_frame}
+use Rattle.entries.proofs.step_or_check.Goals.{After-accept_frame-accepted}
 
 -- what is read, judged and handed on is the flight of both frames
-read_is : (c : After-accept_frame) → c.accept_frame.result ≡ read_flight c.args.config.now c.args.fence.now
+read_is : (c : After-accept_frame-accepted) → c.accept_frame-accepted.result ≡ read_flight c.args.config.now c.args.fence.now
 read_is c =
     let a = c.args in
     let s = a.config.now in
     let h = sym c.check_config_frame.ensures.value ∙ c.in_ok-check_config_frame.was in
     let t = take_all 246 s (le_of_eq (length-due s h)) in
-    c.accept_frame.ensures
+    c.accept_frame-accepted.ensures
     ∙ (λ i. accept_flight (config_at (t i) (keeps_raised (t i))) c.in_ok-read.read)
     ∙ sym (flight_is s a.fence.now _ h (sym c.read_fence.ensures ∙ c.in_ok-read.was))
 
@@ -39,25 +39,24 @@ returns-in_err-read c =
     let f = fence_refused a.config.now a.fence.now _ h (sym c.read_fence.ensures ∙ c.in_err-read.was) in
     rw (p.1, p.2, refused_call a.checking a.with_side a.config.now a.fence.now a.state.now a.telemetry.now a.output.now a.areas.now _ f) record { value = refl; state_after = refl; output_after = refl }
 
-pub returns-in_err-flight : goal.returns-in_err-flight
-returns-in_err-flight c =
+pub returns-in-Err : goal.returns-in-Err
+returns-in-Err c =
     let a = c.args in
-    let p = err_from_is_err_and c.from_residual-in_err-flight.result c.from_residual-in_err-flight.ensures.1 in
-    let f = sym (read_is (goal.at.returns-in_err-flight c).After-accept_frame) ∙ c.in_err-flight.was in
-    rw (p.1, p.2, refused_call a.checking a.with_side a.config.now a.fence.now a.state.now a.telemetry.now a.output.now a.areas.now _ f) record { value = refl; state_after = refl; output_after = refl }
+    let f = sym (read_is (goal.at.returns-in-Err c).After-accept_frame-accepted) ∙ c.in-Err.is in
+    rw (refused_call a.checking a.with_side a.config.now a.fence.now a.state.now a.telemetry.now a.output.now a.areas.now _ f) record { value = refl; state_after = refl; output_after = refl }
 
 pub returns-in_err-check_areas : goal.returns-in_err-check_areas
 returns-in_err-check_areas c =
     let a = c.args in
     let p = err_from_is_err_and c.from_residual-in_err-check_areas.result c.from_residual-in_err-check_areas.ensures.1 in
-    let f = sym (read_is (goal.at.returns-in_err-check_areas c).After-accept_frame) ∙ c.in_ok-flight.was in
+    let f = sym (read_is (goal.at.returns-in_err-check_areas c).After-accept_frame-accepted) ∙ c.in-Ok.is in
     let n = ap area_number (sym c.in_err-check_areas.was) ∙ c.check_areas.ensures in
     rw (p.1, p.2, areas_refused a.checking a.with_side a.config.now a.fence.now a.state.now a.telemetry.now a.output.now a.areas.now _ f _ n (area_number_not_0 _)) record { value = refl; state_after = refl; output_after = refl }
 
 pub returns-then-checking : goal.returns-then-checking
 returns-then-checking c =
     let a = c.args in
-    let f = sym (read_is (goal.at.returns-then-checking c).After-accept_frame) ∙ c.in_ok-flight.was in
+    let f = sym (read_is (goal.at.returns-then-checking c).After-accept_frame-accepted) ∙ c.in-Ok.is in
     let n = ap area_number (sym c.in_ok-check_areas.was) ∙ c.check_areas.ensures in
     rw (checked a.checking a.with_side a.config.now a.fence.now a.state.now a.telemetry.now a.output.now a.areas.now _ f n c.if-checking.true) record { value = refl; state_after = refl; output_after = refl }
 
@@ -68,7 +67,7 @@ pub returns-then-is_wide : goal.returns-then-is_wide
 unfolding form_of
 returns-then-is_wide c =
     let a = c.args in
-    let f = sym (read_is (goal.at.returns-then-is_wide c).After-accept_frame) ∙ c.in_ok-flight.was in
+    let f = sym (read_is (goal.at.returns-then-is_wide c).After-accept_frame-accepted) ∙ c.in-Ok.is in
     let n = ap area_number (sym c.in_ok-check_areas.was) ∙ c.check_areas.ensures in
     rw (flown a.checking a.with_side a.config.now a.fence.now a.state.now a.telemetry.now a.output.now a.areas.now _ f n c.if-checking.false, ← c.is_wide.ensures, c.if-is_wide.true) record { value = c.step_wide.ensures.value; state_after = c.step_wide.ensures.state_after; output_after = c.step_wide.ensures.output_after }
 
@@ -76,6 +75,6 @@ pub returns-else-is_wide : goal.returns-else-is_wide
 unfolding form_of
 returns-else-is_wide c =
     let a = c.args in
-    let f = sym (read_is (goal.at.returns-else-is_wide c).After-accept_frame) ∙ c.in_ok-flight.was in
+    let f = sym (read_is (goal.at.returns-else-is_wide c).After-accept_frame-accepted) ∙ c.in-Ok.is in
     let n = ap area_number (sym c.in_ok-check_areas.was) ∙ c.check_areas.ensures in
     rw (flown a.checking a.with_side a.config.now a.fence.now a.state.now a.telemetry.now a.output.now a.areas.now _ f n c.if-checking.false, ← c.is_wide.ensures, c.if-is_wide.false) record { value = c.step_state.ensures.value; state_after = c.step_state.ensures.state_after; output_after = c.step_state.ensures.output_after }
