@@ -38,10 +38,10 @@
  * of 64 (a build for another processor differs):
  *   failsafe_step        4032 bytes
  *   failsafe_step_side   4032 bytes
- *   failsafe_step_areas  4096 bytes
+ *   failsafe_step_areas  4032 bytes
  *   any of these on a state of kind 10 6016 bytes
- *   failsafe_add_area    1280 bytes
- *   failsafe_remove_area 1280 bytes
+ *   failsafe_add_area    960 bytes
+ *   failsafe_remove_area 960 bytes
  *
  * Frames
  *

@@ -48,6 +48,17 @@ staticlib() {
     export CUTHRANSI_STATICLIB
 }
 
+# From outside the static library NAME needs these FUNCTIONS, in the order of the alphabet, and nothing else.
+needs_from_outside() { # NAME FUNCTIONS
+    local listed found
+    listed=$(nm -u "$top/target/staticlib/lib$1.a") || exit 1
+    found=$(awk '$1 == "U" { print $2 }' <<<"$listed" | sort -u | tr '\n' ' ')
+    if [ "${found% }" != "$2" ]; then
+        echo "lib$1.a is to need '$2' from outside; it needs '${found% }'"
+        exit 1
+    fi
+}
+
 # The oracle's PROGRAM sees each of these faults of the plain Rust entries, which are put in the port's place.
 sees_faults() { # PROGRAM FAULT ..
     local program=$1 standin fault

@@ -17,10 +17,7 @@ cmp "$build/host.out" examples/host.out
 "$build/empty" <samples/flight.frames
 "$build/boot"
 library=target/staticlib/libfailsafe.a
-if [ "$(nm -u "$library" | awk '$1 == "U" { print $2 }' | sort -u | tr '\n' ' ')" != "memcpy memset " ]; then
-    echo "the library needs other functions from outside than include/failsafe.h says: $(nm -u "$library" | tr '\n' ' ')"
-    exit 1
-fi
+needs_from_outside failsafe 'memcpy memset'
 if [ "$(size "$library" | awk 'NR > 1 { sum += $2 + $3 } END { print sum }')" != 0 ]; then
     echo "the library has globals that can be written: $(size "$library")"
     exit 1

@@ -1,10 +1,10 @@
 -- An array of 16 that holds a list and then one value in all other places; the corners held, and the distance by their count. Assumes nothing.
-use mathlib.Core.Path.{◌≡◌, sym, ap, ◌∙◌}
+use mathlib.Core.Path.{◌≡◌, refl, sym, ap, ◌∙◌}
 use Prim.Native.Nat.{ℕ, suc, ◌+◌, ◌-◌, ◌≤◌, ◌<◌}
 use native.Mathlib.Nat.{not-suc-le-zero, le_of_suc-le-suc, eq-or-lt_of_le}
 use native.Mathlib.Numerals.{add-one}
 use native.Mathlib.Omega.{arith}
-use mathlib.Core.Bool.{Bool, false}
+use mathlib.Core.Bool.{Bool, true, false, cond}
 use mathlib.Core.Logic.{◌⊎◌, inl, inr}
 use mathlib.Core.List.{List, [], ◌∷◌, ◌++◌, reverse, reverse-cons}
 use lib.ListN.{length, get_or, take, drop, set, replicate, length-reverse, get_or-append}
@@ -15,8 +15,7 @@ use Rattle.types.specs.declared.Point2.{Point2}
 use Rattle.corners.specs.Ring.{beside, sides}
 use Rattle.corners.proofs.Around.{pairs, sides_of}
 use Rattle.corners.proofs.Places.{nowhere}
-use Rattle.std.proofs.lemmas.List.{drop-replicate}
-use Rattle.geometry.specs.Polygon.{zero_point, held_order, normalize_ccw}
+use Rattle.geometry.specs.Polygon.{held_order}
 use Rattle.geometry.specs.Distance.{minus_one, no_side, nearest_from, edge_signed_distance_by, nearest_by}
 
 module _ {A : Type 0} where
@@ -46,9 +45,14 @@ module _ {A : Type 0} where
   pub stored : (m : List A) (z : A) (i n : ℕ) → length m ≡ n → i ≡ n → take i m ++ replicate (16 - i) z ≡ m ++ replicate (16 - n) z
   stored m z i n e k = rw (k, take_all n m (omega arith))
 
--- corners in an array of zeros
-pub held_as : (ccw : Bool) (v h : List Point2) → h ≡ held_order ccw v → record { verts = h ++ drop (length v) (replicate 16 zero_point); len = length v } ≡ normalize_ccw ccw v
-held_as ccw v h e = rw (e, drop-replicate (length v) 16 zero_point)
+pub length-order : (ccw : Bool) (l : List Point2) → length (held_order ccw l) ≡ length l
+length-order true l = refl
+length-order false l = length-reverse l
+
+-- the corner that is held at i
+pub held_at : (ccw : Bool) (l : List Point2) (i : ℕ) (d : Point2) → i < length l → get_or l (cond ccw i (length l - 1 - i)) d ≡ get_or (held_order ccw l) i d
+held_at true l i d h = refl
+held_at false l i d h = sym (get_d_reverse l i d h)
 
 -- the distance by the count of corners
 pub distance_few : (l : List Point2) (ms : List Float) (p : Point2) → length l < 3 → nearest_by l ms p ≡ no_side minus_one

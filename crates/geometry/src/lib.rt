@@ -35,17 +35,16 @@ pub struct FenceDistance {
     pub side: u8,
 }
 
-// At most sixteen corners as they are held.
+// At most sixteen corners as they are held. By a loop: with `copy_from_slice` of std the static library of leaves_c would ask its host for memset.
 fn normalize_ccw(pts: &[Point2], ccw: bool) -> ConvexPolygon
     requires { length pts.now ≤ 16 }
     ensures { result ≡ normalize_ccw ccw pts.now }
 {
     let n = pts.len();
     let mut verts = [Point2 { n: 0.0, e: 0.0 }; 16];
-    let held = &mut verts[..n];
-    held.copy_from_slice(pts);
-    if !ccw {
-        held.reverse();
+    for i in 0..n {
+        let at = if ccw { i } else { n - 1 - i };
+        verts[i] = pts[at];
     }
     ConvexPolygon { verts, len: n }
 }
